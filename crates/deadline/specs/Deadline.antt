@@ -1,0 +1,25 @@
+-- Document 01, 'Deadlines': whether a refresh may put a requested deadline in the place of the prior one. Assumes nothing.
+use Prim.Native.Nat.{ℕ, _-_}
+use mathlib.Core.Bool.{Bool, cond, _||_}
+use lib.Dec.{leb, ltb}
+use Rattle.deadline.specs.declared.RefreshDeadlineDecision.{RefreshDeadlineDecision}
+use Rattle.deadline.specs.declared.RefreshDeadlineDecision.the-variants.{PriorExpired, RequestedDeadlineInvalid, DeadlineRegressed, Apply}
+
+-- the longest lifetime of a deadline: 300 seconds, in nanoseconds
+abbrev pub ceiling : ℕ
+ceiling = 300_000_000_000
+
+-- the decisions by number: 01 gives none, so they are counted from 0 in the order in which it lists them
+abbrev pub decisionNumber : RefreshDeadlineDecision → ℕ
+decisionNumber PriorExpired = 0
+decisionNumber RequestedDeadlineInvalid = 1
+decisionNumber DeadlineRegressed = 2
+decisionNumber Apply = 3
+
+-- on observed o, prior p, requested r, in this order: o >= p; r <= o or r - o above the ceiling; r < p; else Apply
+unfoldable pub refreshDecision : ℕ → ℕ → ℕ → ℕ
+refreshDecision o p r =
+    cond (leb p o) 0
+    (cond (leb r o || ltb ceiling (r - o)) 1
+    (cond (ltb r p) 2
+    3))

@@ -1,0 +1,2 @@
+-- The definitions that the contract of `deadline` cites. Assumes nothing.
+pub mod Deadline

@@ -1,0 +1,31 @@
+-- `matches_ipv6`: family, port and address, as in the definition. Assumes nothing.
+use borrow.Author.Tests.{eq-eqb, ne-eqb}
+use Rattle.endpoint.specs.Endpoint.{matchesIpv6}
+use borrow.Author.Needs.{needs}
+use Rattle.endpoint.proofs.ProtectedEndpoint.matches_ipv6.Statement.{statement}
+use Rattle.endpoint.proofs.ProtectedEndpoint.matches_ipv6.Tie as tie
+
+returns : tie.Need-returns
+unfolding matchesIpv6
+returns c = simp (ne-eqb _ _ (c .if1 .taken))
+
+returns-2 : tie.Need-returns-2
+unfolding matchesIpv6
+returns-2 c = simp (eq-eqb _ _ (c .before .if1 .left), ne-eqb _ _ (c .if2 .taken))
+
+returns-3 : tie.Need-returns-3
+unfolding matchesIpv6
+returns-3 c =
+    let past = c .before .before .before in
+    simp (eq-eqb _ _ (past .before .if1 .left), eq-eqb _ _ (past .if2 .left)) (c .same .ensures)
+
+pub matches-ipv6-spec : {M : Type 1} → statement M
+matches-ipv6-spec =
+    tie.close
+    (tie.spec
+    returns
+    returns-2
+    (λ c. search needs)
+    (λ c. search needs)
+    (λ c κs. search needs)
+    returns-3)

@@ -1,0 +1,2 @@
+-- The definitions that the contracts of `endpoint` cite. Assumes nothing.
+pub mod Endpoint

@@ -1,0 +1,73 @@
+-- The laws of layouts, proved once for every record. Assumes nothing.
+use mathlib.Core.Path.{_≡_, refl, sym, ap, _∙_, subst}
+use mathlib.Core.List.{List, [], _∷_, _++_, append-assoc, append-nil}
+use Prim.Native.Nat.{ℕ, zero, suc, _+_, _<_, _≤_, _^_}
+use native.Mathlib.Nat.{add-zero, zero-add, add-assoc}
+use native.Mathlib.Omega.{arith}
+use lib.ListN.{length, drop, length-append, drop-of-length-le}
+use Rattle.octets.specs.Octets.{Bytes, octetsAt, put, le, be, leBytes, beBytes}
+use Rattle.octets.proofs.OctetsLaws.{length-octets, length-leBytes, length-beBytes, le-leBytes, leBytes-le, be-beBytes, beBytes-be, put-append, put-in, Bytes-octets, octets-drop, octets-at}
+use Rattle.octets.specs.Layout.{Field, little, big, width, numberOf, bytesOf, size, fieldsAt, laid, puts, Fit}
+
+-- ---- a field
+
+length-bytesOf : (f : Field) (v : ℕ) → length (bytesOf f v) ≡ width f
+length-bytesOf (little n) v = length-leBytes n v
+length-bytesOf (big n) v = length-beBytes n v
+
+number-bytes : (f : Field) (v : ℕ) → v < 256 ^ width f → numberOf f (bytesOf f v) ≡ v
+number-bytes (little n) v h = le-leBytes n v h
+number-bytes (big n) v h = be-beBytes n v h
+
+bytes-number : (f : Field) (s : List ℕ) → Bytes s → length s ≡ width f → bytesOf f (numberOf f s) ≡ s
+bytes-number (little n) s h e = rw (← e) (leBytes-le s h)
+bytes-number (big n) s h e = rw (← e) (beBytes-be s h)
+
+-- ---- a layout: the bytes of the numbers of bytes, and the numbers of the bytes of numbers
+
+fields-from : (fs : List Field) (s : List ℕ) (at : ℕ) → Bytes s → length s ≡ at + size fs → laid fs (fieldsAt fs s at) ≡ drop at s
+fields-from [] s at h e = sym (drop-of-length-le s {i = at} (omega arith))
+fields-from (f ∷ fs) s at h e =
+    let here : bytesOf f (numberOf f (octetsAt s at (width f))) ≡ octetsAt s at (width f) =
+    bytes-number f (octetsAt s at (width f)) (Bytes-octets s at (width f) h) (length-octets s at (width f)) in
+    rw (here, fields-from fs s (at + width f) h (omega arith)) (octets-drop s at (width f) (omega arith))
+
+pub laid-fields : (fs : List Field) (s : List ℕ) → Bytes s → length s ≡ size fs → laid fs (fieldsAt fs s 0) ≡ s
+laid-fields fs s h e = fields-from fs s 0 h (omega arith)
+
+fields-after : (fs : List Field) (vs p : List ℕ) → Fit fs vs → fieldsAt fs (p ++ laid fs vs) (length p) ≡ vs
+fields-after [] [] p h = refl
+fields-after [] (v ∷ vs) p h = absurd h
+fields-after (f ∷ fs) [] p h = absurd h
+fields-after (f ∷ fs) (v ∷ vs) p h =
+    let here : octetsAt (p ++ (bytesOf f v ++ laid fs vs)) (length p) (width f) ≡ bytesOf f v =
+    octets-at p (bytesOf f v) (laid fs vs) (width f) (length-bytesOf f v) in
+    let rest : fieldsAt fs (p ++ (bytesOf f v ++ laid fs vs)) (length p + width f) ≡ vs =
+    rw (append-assoc, length-append, length-bytesOf) at (fields-after fs vs (p ++ bytesOf f v) (h .1)) in
+    rw (here, rest, number-bytes f v (h .0))
+
+pub fields-laid : (fs : List Field) (vs : List ℕ) → Fit fs vs → fieldsAt fs (laid fs vs) 0 ≡ vs
+fields-laid fs vs h = fields-after fs vs [] h
+
+pub length-laid : (fs : List Field) (vs : List ℕ) → Fit fs vs → length (laid fs vs) ≡ size fs
+length-laid [] [] h = refl
+length-laid [] (v ∷ vs) h = absurd h
+length-laid (f ∷ fs) [] h = absurd h
+length-laid (f ∷ fs) (v ∷ vs) h = rw (length-append, length-bytesOf, length-laid fs vs (h .1))
+
+-- ---- what a run of stores leaves
+
+pub puts-laid : (fs : List Field) (vs d : List ℕ) (at : ℕ) → puts fs vs d at ≡ put d at (laid fs vs)
+unfolding put
+puts-laid [] vs d at = refl
+puts-laid (f ∷ fs) [] d at = refl
+puts-laid (f ∷ fs) (v ∷ vs) d at =
+    puts-laid fs vs (put d at (bytesOf f v)) (at + width f)
+    ∙ ap (λ (n : ℕ). put (put d at (bytesOf f v)) (at + n) (laid fs vs)) (sym (length-bytesOf f v))
+    ∙ sym (put-append d at (bytesOf f v) (laid fs vs))
+
+-- written at the start of a list with room, the rest unchanged
+pub put-laid : (fs : List Field) (vs d : List ℕ) → Fit fs vs → size fs ≤ length d → put d 0 (laid fs vs) ≡ laid fs vs ++ drop (size fs) d
+put-laid fs vs d h room =
+    let e : length (laid fs vs) ≡ size fs = length-laid fs vs h in
+    rw (zero-add, e) at (put-in d 0 (laid fs vs) (omega arith))

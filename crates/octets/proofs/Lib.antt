@@ -1,0 +1,5 @@
+-- The laws of `octets`, which every crate above cites. Assumes nothing.
+pub mod OctetsLaws
+pub mod LayoutLaws
+pub mod CodecLaws
+pub mod Unique

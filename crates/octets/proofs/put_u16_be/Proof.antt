@@ -1,0 +1,28 @@
+-- `put_u16_be`: the law of two halves at 1 and 1 octets; past the end neither side stores. Assumes nothing.
+use borrow.Author.Needs.{needs}
+use Prim.Native.Nat.{_/_, _%_}
+use mathlib.Core.Path.{sym}
+use Rattle.octets.proofs.OctetsLaws.{put-past, put-parts-be, beBytes-one}
+use Rattle.octets.proofs.put_u16_be.Statement.{statement}
+use Rattle.octets.proofs.put_u16_be.Tie as tie
+
+returns : tie.Need-returns
+returns c = sym (put-past _ _ _ (c .if1 .taken))
+
+returns-2 : tie.Need-returns-2
+returns-2 c =
+    let a = c .before .before .before .before .before .before .before .before .before .before .args in
+    cc (put-parts-be (a .d .now) (a .at) 1 1 (a .v), beBytes-one (a .v / 256), beBytes-one (a .v % 256))
+
+pub put-u16-be-spec : {M : Type 1} → statement M
+put-u16-be-spec =
+    tie.close
+    (tie.spec
+    returns
+    (search needs)
+    (search needs)
+    (search needs)
+    (search needs)
+    (search needs)
+    (search needs)
+    returns-2)

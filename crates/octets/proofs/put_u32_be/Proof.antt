@@ -1,0 +1,27 @@
+-- `put_u32_be`: the law of two halves at 2 and 2 octets; past the end neither side stores. Assumes nothing.
+use borrow.Author.Needs.{needs}
+use mathlib.Core.Path.{sym}
+use Rattle.octets.proofs.OctetsLaws.{put-past, put-parts-be}
+use Rattle.octets.proofs.put_u32_be.Statement.{statement}
+use Rattle.octets.proofs.put_u32_be.Tie as tie
+
+returns : tie.Need-returns
+returns c = sym (put-past _ _ _ (c .if1 .taken))
+
+returns-2 : tie.Need-returns-2
+returns-2 c =
+    let a = c .before .before .before .before .before .before .before .before .before .before .args in
+    cc (put-parts-be (a .d .now) (a .at) 2 2 (a .v))
+
+pub put-u32-be-spec : {M : Type 1} → statement M
+put-u32-be-spec =
+    tie.close
+    (tie.spec
+    returns
+    (search needs)
+    (search needs)
+    (search needs)
+    (search needs)
+    (search needs)
+    (search needs)
+    returns-2)

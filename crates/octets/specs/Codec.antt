@@ -1,0 +1,50 @@
+-- A codec: what a record's bytes mean. What decoding and encoding give, for any record (document 01, 'Numbers given back').
+-- Assumes nothing.
+use Prim.Native.Nat.{ℕ}
+use mathlib.Core.Bool.{Bool, cond}
+use mathlib.Core.List.{List, _++_}
+use lib.ListN.{length, drop}
+use lib.Dec.{leb, eqb}
+use Rattle.octets.specs.Layout.{Field, size, fieldsAt, laid}
+
+pub record Codec (R : Type 0) : Type 0 where
+  -- the fields, in their order
+  pub layout : List Field
+  -- the rule on the fields' numbers
+  pub ok : List ℕ → Bool
+  -- the record that accepted numbers stand for, and the numbers of a record
+  pub of : List ℕ → R
+  pub fields : R → List ℕ
+  -- the all-zero record, which stands in every refusal
+  pub blank : R
+
+module _ {R : Type 0} (C : Codec R) where
+  -- of the fields' numbers, as a constructor has them: 0 done, or 2 and the all-zero record
+  abbrev pub fieldsNumber : List ℕ → ℕ
+  fieldsNumber vs = cond (C .ok vs) 0 2
+
+  abbrev pub fieldsValue : List ℕ → R
+  fieldsValue vs = cond (C .ok vs) (C .of vs) (C .blank)
+
+  -- of bytes: 1 where the length is not the record's, else as of the fields' numbers
+  unfoldable pub decodeNumber : List ℕ → ℕ
+  decodeNumber s = cond (eqb (length s) (size (C .layout))) (fieldsNumber (fieldsAt (C .layout) s 0)) 1
+
+  unfoldable pub decodeValue : List ℕ → R
+  decodeValue s = cond (eqb (length s) (size (C .layout))) (fieldsValue (fieldsAt (C .layout) s 0)) (C .blank)
+
+  -- a record is sound where its numbers obey the rule
+  abbrev pub sound : R → Bool
+  sound v = C .ok (C .fields v)
+
+  -- a record's bytes
+  abbrev pub bytes : R → List ℕ
+  bytes v = laid (C .layout) (C .fields v)
+
+  -- of a record and an output: 3 unsound, 4 the output is shorter than the record, 0 done
+  unfoldable pub encodeNumber : R → List ℕ → ℕ
+  encodeNumber v out = cond (sound v) (cond (leb (size (C .layout)) (length out)) 0 4) 3
+
+  -- what the output holds then: the record's bytes at the start and the rest as it was; untouched on a refusal
+  unfoldable pub encodeBytes : R → List ℕ → List ℕ
+  encodeBytes v out = cond (sound v) (cond (leb (size (C .layout)) (length out)) (bytes v ++ drop (size (C .layout)) out) out) out

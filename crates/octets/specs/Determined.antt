@@ -1,0 +1,15 @@
+-- Uniqueness of an answer, from a contract alone (document 01, 'How tight the contracts are'). Assumes nothing.
+use Prim.Native.Nat.{ℕ}
+use mathlib.Core.Path.{_≡_}
+use mathlib.Core.List.{List}
+use contract.Lifetimes.{Lfts}
+use borrow.Fn.Kind.{PK, RK}
+use borrow.Fn.Kinds.{resT, Out, endedOf, Dens}
+use denote.Triple.Clauses.{Lasts, atExit}
+
+-- `Q` is what a caller learns of a call of a function with parameters ps and result r. Of any two ways in which a call on the same
+-- arguments may end that both meet Q, the results x, y are equal, and so are u, v: what each lent buffer holds at the end.
+abbrev pub Determined : {n : ℕ} (ps : List (PK n)) (r : RK n) → Out n ps r → Type 0
+Determined {n} ps r Q =
+    (κs : Lfts n) (a : Dens κs ps) (x y : resT r κs .Denot) (u v : Lasts (endedOf n ps r) κs a) →
+    Q κs a x (atExit (endedOf n ps r) κs a u) → Q κs a y (atExit (endedOf n ps r) κs a v) → (x ≡ y) × (u ≡ v)

@@ -1,0 +1,5 @@
+-- The definitions that the contracts of `octets` cite, and those on which every crate above builds. Assumes nothing.
+pub mod Octets
+pub mod Layout
+pub mod Codec
+pub mod Determined

@@ -1,0 +1,207 @@
+// Unsigned numbers of 8 to 64 bits at a place of a slice, in both octet orders, and comparisons of parts of slices.
+//
+// Every function is total: an octet past the end of a slice reads as 0, and one written there is dropped. So a caller has no
+// fact to show. A caller that has tested the length first pays for no second test: the compiler folds them.
+ghost use mathlib.Core.Path.{_≡_};
+ghost use Rattle.octets.specs.Octets.{octetsAt, le, be, put, leBytes, beBytes, allZero, sameOctets};
+
+pub fn get_u8(s: &[u8], at: usize) -> u8
+    ensures { λ r. ⌜ r ≡ le (octetsAt (now (s .entry)) at 1) ⌝ }
+{
+    if at < s.len() { s[at] } else { 0 }
+}
+
+pub fn put_u8(d: &mut [u8], at: usize, v: u8)
+    ensures { λ r. ⌜ now (d .exit) ≡ put (now (d .entry)) at (leBytes 1 v) ⌝ }
+{
+    if at < d.len() {
+        d[at] = v;
+    }
+}
+
+// ---- least significant octet first. A number of twice the width is its two halves.
+
+pub fn get_u16_le(s: &[u8], at: usize) -> u16
+    ensures { λ r. ⌜ r ≡ le (octetsAt (now (s .entry)) at 2) ⌝ }
+{
+    if s.len() <= at {
+        return 0;
+    }
+    let low = get_u8(s, at);
+    let high = get_u8(s, at + 1);
+    (low as u16) + (high as u16) * 256
+}
+
+pub fn put_u16_le(d: &mut [u8], at: usize, v: u16)
+    ensures { λ r. ⌜ now (d .exit) ≡ put (now (d .entry)) at (leBytes 2 v) ⌝ }
+{
+    if d.len() <= at {
+        return;
+    }
+    let low = (v % 256) as u8;
+    let high = (v / 256) as u8;
+    put_u8(d, at, low);
+    put_u8(d, at + 1, high);
+}
+
+pub fn get_u32_le(s: &[u8], at: usize) -> u32
+    ensures { λ r. ⌜ r ≡ le (octetsAt (now (s .entry)) at 4) ⌝ }
+{
+    if s.len() <= at {
+        return 0;
+    }
+    let low = get_u16_le(s, at);
+    let high = get_u16_le(s, at + 2);
+    (low as u32) + (high as u32) * 65536
+}
+
+pub fn put_u32_le(d: &mut [u8], at: usize, v: u32)
+    ensures { λ r. ⌜ now (d .exit) ≡ put (now (d .entry)) at (leBytes 4 v) ⌝ }
+{
+    if d.len() <= at {
+        return;
+    }
+    let low = (v % 65536) as u16;
+    let high = (v / 65536) as u16;
+    put_u16_le(d, at, low);
+    put_u16_le(d, at + 2, high);
+}
+
+pub fn get_u64_le(s: &[u8], at: usize) -> u64
+    ensures { λ r. ⌜ r ≡ le (octetsAt (now (s .entry)) at 8) ⌝ }
+{
+    if s.len() <= at {
+        return 0;
+    }
+    let low = get_u32_le(s, at);
+    let high = get_u32_le(s, at + 4);
+    (low as u64) + (high as u64) * 4294967296
+}
+
+pub fn put_u64_le(d: &mut [u8], at: usize, v: u64)
+    ensures { λ r. ⌜ now (d .exit) ≡ put (now (d .entry)) at (leBytes 8 v) ⌝ }
+{
+    if d.len() <= at {
+        return;
+    }
+    let low = (v % 4294967296) as u32;
+    let high = (v / 4294967296) as u32;
+    put_u32_le(d, at, low);
+    put_u32_le(d, at + 4, high);
+}
+
+// ---- most significant octet first. A number of twice the width is its two halves.
+
+pub fn get_u16_be(s: &[u8], at: usize) -> u16
+    ensures { λ r. ⌜ r ≡ be (octetsAt (now (s .entry)) at 2) ⌝ }
+{
+    if s.len() <= at {
+        return 0;
+    }
+    let high = get_u8(s, at);
+    let low = get_u8(s, at + 1);
+    (low as u16) + (high as u16) * 256
+}
+
+pub fn put_u16_be(d: &mut [u8], at: usize, v: u16)
+    ensures { λ r. ⌜ now (d .exit) ≡ put (now (d .entry)) at (beBytes 2 v) ⌝ }
+{
+    if d.len() <= at {
+        return;
+    }
+    let low = (v % 256) as u8;
+    let high = (v / 256) as u8;
+    put_u8(d, at, high);
+    put_u8(d, at + 1, low);
+}
+
+pub fn get_u32_be(s: &[u8], at: usize) -> u32
+    ensures { λ r. ⌜ r ≡ be (octetsAt (now (s .entry)) at 4) ⌝ }
+{
+    if s.len() <= at {
+        return 0;
+    }
+    let high = get_u16_be(s, at);
+    let low = get_u16_be(s, at + 2);
+    (low as u32) + (high as u32) * 65536
+}
+
+pub fn put_u32_be(d: &mut [u8], at: usize, v: u32)
+    ensures { λ r. ⌜ now (d .exit) ≡ put (now (d .entry)) at (beBytes 4 v) ⌝ }
+{
+    if d.len() <= at {
+        return;
+    }
+    let low = (v % 65536) as u16;
+    let high = (v / 65536) as u16;
+    put_u16_be(d, at, high);
+    put_u16_be(d, at + 2, low);
+}
+
+pub fn get_u64_be(s: &[u8], at: usize) -> u64
+    ensures { λ r. ⌜ r ≡ be (octetsAt (now (s .entry)) at 8) ⌝ }
+{
+    if s.len() <= at {
+        return 0;
+    }
+    let high = get_u32_be(s, at);
+    let low = get_u32_be(s, at + 4);
+    (low as u64) + (high as u64) * 4294967296
+}
+
+pub fn put_u64_be(d: &mut [u8], at: usize, v: u64)
+    ensures { λ r. ⌜ now (d .exit) ≡ put (now (d .entry)) at (beBytes 8 v) ⌝ }
+{
+    if d.len() <= at {
+        return;
+    }
+    let low = (v % 4294967296) as u32;
+    let high = (v / 4294967296) as u32;
+    put_u32_be(d, at, high);
+    put_u32_be(d, at + 4, low);
+}
+
+// ---- parts of slices
+
+// Whether the n octets of s from at on are all zero.
+pub fn is_zero(s: &[u8], at: usize, n: usize) -> bool
+    ensures { λ r. ⌜ r ≡ allZero (octetsAt (now (s .entry)) at n) ⌝ }
+{
+    let mut i = at;
+    let mut left = n;
+    while left != 0 {
+        if s.len() <= i {
+            return true;
+        }
+        if s[i] != 0 {
+            return false;
+        }
+        i += 1;
+        left -= 1;
+    }
+    true
+}
+
+// Whether the n octets of a from i on equal those of b from j on.
+pub fn same(a: &[u8], i: usize, b: &[u8], j: usize, n: usize) -> bool
+    ensures { λ r. ⌜ r ≡ sameOctets (octetsAt (now (a .entry)) i n) (octetsAt (now (b .entry)) j n) ⌝ }
+{
+    let mut p = i;
+    let mut q = j;
+    let mut left = n;
+    while left != 0 {
+        if a.len() <= p {
+            return is_zero(b, q, left);
+        }
+        if b.len() <= q {
+            return is_zero(a, p, left);
+        }
+        if a[p] != b[q] {
+            return false;
+        }
+        p += 1;
+        q += 1;
+        left -= 1;
+    }
+    true
+}
