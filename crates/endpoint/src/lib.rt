@@ -5,6 +5,11 @@ ghost use lib.ListN.{replicate};
 ghost use Rattle.octets.specs.Octets.{octetsAt};
 ghost use Rattle.endpoint.specs.Endpoint.{usableIpv4, usableIpv6, linkLocal, ipv4Mapped, soundEndpoint, made, ipv4Of, ipv6Of, matchesIpv4, matchesIpv6};
 
+// Addresses in network order.
+pub type Ipv4Address = [u8; 4];
+
+pub type Ipv6Address = [u8; 16];
+
 // The Rust's enum of two cases, each with an array, as one struct: `family` is 4 or 6, and an IPv4 address stands in the first four
 // bytes of `address`.
 pub struct ProtectedEndpoint {
@@ -59,7 +64,7 @@ fn usable_ipv6(address: [u8; 16]) -> bool
 }
 
 // An IPv4 address in its place, the spare bytes zero.
-fn padded(address: [u8; 4]) -> [u8; 16]
+fn padded(address: Ipv4Address) -> [u8; 16]
     ensures { λ r. ⌜ r ≡ octetsAt address 0 4 ++ replicate 12 0 ⌝ }
 {
     let mut whole = [0u8; 16];
@@ -119,7 +124,7 @@ impl ProtectedEndpoint {
         }
     }
 
-    pub fn ipv4(address: [u8; 4], port: u16) -> EndpointAnswer
+    pub fn ipv4(address: Ipv4Address, port: u16) -> EndpointAnswer
         ensures { λ r. ⌜ r ≡ made (ipv4Of address port) ⌝ }
     {
         let whole = padded(address);
@@ -130,7 +135,7 @@ impl ProtectedEndpoint {
         }.checked()
     }
 
-    pub fn ipv6(address: [u8; 16], port: u16) -> EndpointAnswer
+    pub fn ipv6(address: Ipv6Address, port: u16) -> EndpointAnswer
         ensures { λ r. ⌜ r ≡ made (ipv6Of address port) ⌝ }
     {
         ProtectedEndpoint {
@@ -147,7 +152,7 @@ impl ProtectedEndpoint {
     }
 
     // Whether this endpoint is the IPv4 source given. The spare bytes are not looked at.
-    pub fn matches_ipv4(self, address: [u8; 4], port: u16) -> bool
+    pub fn matches_ipv4(self, address: Ipv4Address, port: u16) -> bool
         ensures { λ r. ⌜ r ≡ matchesIpv4 self address port ⌝ }
     {
         let family = self.family;
@@ -163,7 +168,7 @@ impl ProtectedEndpoint {
     }
 
     // Whether this endpoint is the IPv6 source given.
-    pub fn matches_ipv6(self, address: [u8; 16], port: u16) -> bool
+    pub fn matches_ipv6(self, address: Ipv6Address, port: u16) -> bool
         ensures { λ r. ⌜ r ≡ matchesIpv6 self address port ⌝ }
     {
         let family = self.family;

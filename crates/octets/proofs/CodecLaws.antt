@@ -1,4 +1,7 @@
--- The round trip of every codec, and the three answers of an encoder, proved once. Assumes nothing.
+-- The laws of every codec, proved once. Accepted bytes encode to themselves and only sound records are given; sound records decode to
+-- themselves; an unsound record is given for no bytes (document 01's meaning of 3); and the three answers of an encoder. A record owes
+-- `Lawful`, a fact on the numbers of its fields: that `fields` and `of` undo each other on what its rule accepts. The rest is the
+-- laws of layouts. Assumes nothing.
 use mathlib.Core.Path.{_≡_, refl, sym, ap, _∙_}
 use mathlib.Core.Bool.{Bool, true, false, cond, _&&_, true≢false}
 use mathlib.Core.List.{List}
@@ -9,57 +12,64 @@ use lib.Dec.{eqb}
 use borrow.Author.Tests.{eqb-true, eq-eqb, le-leb, lt-leb}
 use Rattle.octets.specs.Octets.{Bytes}
 use Rattle.octets.specs.Layout.{size, fieldsAt, puts, Fit}
-use Rattle.octets.specs.Codec.{Codec, decodeNumber, decodeValue, sound, bytes, encodeNumber, encodeBytes}
+use Rattle.octets.specs.Codec.{Codec, decodeNumber, decodeValue, sound, bytes, encodeNumber, encodeBytes, Encoded}
 use Rattle.octets.proofs.LayoutLaws.{laid-fields, fields-laid, length-laid, puts-laid, put-laid}
 
--- what a record has to show, of numbers and no bytes: accepted numbers are those of their record, and a sound record is that of its numbers
-pub record Lawful {R : Type 0} (C : Codec R) : Type 0 where
-  pub back : (s : List ℕ) → C .ok (fieldsAt (C .layout) s 0) ≡ true → C .fields (C .of (fieldsAt (C .layout) s 0)) ≡ fieldsAt (C .layout) s 0
-  pub forth : (v : R) → sound C v ≡ true → C .of (C .fields v) ≡ v
+-- What a record owes. `Formed v` says that v is a value of its type: each number within its width, each array of its length.
+pub record Lawful {R : Type 0} (C : Codec R) (Formed : R → Type 0) : Type 0 where
+  -- accepted numbers are those of the record that they stand for
+  pub back : (s : List ℕ) (at : ℕ) → C .ok (fieldsAt (C .layout) s at) ≡ true → C .fields (C .of (fieldsAt (C .layout) s at)) ≡ fieldsAt (C .layout) s at
+  -- a sound record is the one that its numbers stand for
+  pub forth : (v : R) → Formed v → sound C v ≡ true → C .of (C .fields v) ≡ v
+  -- and its numbers fit their fields
+  pub fits : (v : R) → Formed v → Fit (C .layout) (C .fields v)
 
 zero-both : (a b : Bool) → _≡_ {A = ℕ} (cond a (cond b 0 2) 1) 0 → (a ≡ true) × (b ≡ true)
 zero-both true true e = (refl, refl)
 zero-both true false e = absurd (omega arith)
 zero-both false b e = absurd (omega arith)
 
-module _ {R : Type 0} (C : Codec R) (L : Lawful C) where
+module _ {R : Type 0} (C : Codec R) (Formed : R → Type 0) (L : Lawful C Formed) where
   -- accepted bytes encode to themselves, and only sound records are given
   pub accepted : (s : List ℕ) → Bytes s → decodeNumber C s ≡ 0 → (sound C (decodeValue C s) ≡ true) × (bytes C (decodeValue C s) ≡ s)
   unfolding decodeNumber decodeValue
   accepted s h e =
       let both = zero-both (eqb (length s) (size (C .layout))) (C .ok (fieldsAt (C .layout) s 0)) e in
-      let back = L .back s (both .1) in
+      let back = L .back s 0 (both .1) in
       (simp (both .0, both .1) (ap (C .ok) back ∙ both .1), simp (both .0, both .1, back) (laid-fields (C .layout) s h (eqb-true _ _ (both .0))))
 
   -- a sound record decodes to itself
-  pub kept : (v : R) → sound C v ≡ true → Fit (C .layout) (C .fields v) → (decodeNumber C (bytes C v) ≡ 0) × (decodeValue C (bytes C v) ≡ v)
+  pub kept : (v : R) → Formed v → sound C v ≡ true → (decodeNumber C (bytes C v) ≡ 0) × (decodeValue C (bytes C v) ≡ v)
   unfolding decodeNumber decodeValue
-  kept v h f =
+  kept v g h =
+      let f = L .fits v g in
       let len = eq-eqb _ _ (length-laid (C .layout) (C .fields v) f) in
       let there = fields-laid (C .layout) (C .fields v) f in
-      (simp (len, there, h), simp (len, there, h) (L .forth v h))
+      (simp (len, there, h), simp (len, there, h) (L .forth v g h))
 
   -- an unsound record is given for no bytes
   pub never : (s : List ℕ) (v : R) → Bytes s → sound C v ≡ false → decodeNumber C s ≡ 0 → decodeValue C s ≡ v → ⊥
   never s v h u e q = true≢false (sym (accepted s h e .0) ∙ ap (sound C) q ∙ u)
 
+-- The answers of an encoder, in 01's order: 3 before 4.
 module _ {R : Type 0} (C : Codec R) (v : R) (out : List ℕ) where
-  pub encode-unsound : sound C v ≡ false → (3 ≡ encodeNumber C v out) × (out ≡ encodeBytes C v out)
+  pub encode-unsound : sound C v ≡ false → Encoded C v out 3 out
   unfolding encodeNumber encodeBytes
-  encode-unsound e = (simp e, simp e)
+  encode-unsound e = record { number = simp e; output = simp e }
 
-  pub encode-short : sound C v ≡ true → length out < size (C .layout) → (4 ≡ encodeNumber C v out) × (out ≡ encodeBytes C v out)
+  pub encode-short : sound C v ≡ true → length out < size (C .layout) → Encoded C v out 4 out
   unfolding encodeNumber encodeBytes
-  encode-short e h = (simp (e, lt-leb _ _ h), simp (e, lt-leb _ _ h))
+  encode-short e h = record { number = simp (e, lt-leb _ _ h); output = simp (e, lt-leb _ _ h) }
 
   pub encode-done : (out′ : List ℕ) → sound C v ≡ true → size (C .layout) ≤ length out → Fit (C .layout) (C .fields v) →
-      out′ ≡ puts (C .layout) (C .fields v) out 0 → (0 ≡ encodeNumber C v out) × (out′ ≡ encodeBytes C v out)
+      out′ ≡ puts (C .layout) (C .fields v) out 0 → Encoded C v out 0 out′
   unfolding encodeNumber encodeBytes
-  encode-done out′ e h f p = (
-    simp (e, le-leb _ _ h),
-    simp (e, le-leb _ _ h) (p ∙ puts-laid (C .layout) (C .fields v) out 0 ∙ put-laid (C .layout) (C .fields v) out f h),
-  )
+  encode-done out′ e h f p = record {
+    number = simp (e, le-leb _ _ h);
+    output = simp (e, le-leb _ _ h) (p ∙ puts-laid (C .layout) (C .fields v) out 0 ∙ put-laid (C .layout) (C .fields v) out f h);
+  }
 
+-- A rule that is a chain of tests holds where each does.
 pub and-left : (a b : Bool) → (a && b) ≡ true → a ≡ true
 and-left true b h = refl
 and-left false b h = h

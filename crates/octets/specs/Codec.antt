@@ -1,6 +1,7 @@
 -- A codec: what a record's bytes mean. What decoding and encoding give, for any record (document 01, 'Numbers given back').
 -- Assumes nothing.
 use Prim.Native.Nat.{ℕ}
+use mathlib.Core.Path.{_≡_}
 use mathlib.Core.Bool.{Bool, cond}
 use mathlib.Core.List.{List, _++_}
 use lib.ListN.{length, drop}
@@ -48,3 +49,18 @@ module _ {R : Type 0} (C : Codec R) where
   -- what the output holds then: the record's bytes at the start and the rest as it was; untouched on a refusal
   unfoldable pub encodeBytes : R → List ℕ → List ℕ
   encodeBytes v out = cond (sound v) (cond (leb (size (C .layout)) (length out)) (bytes v ++ drop (size (C .layout)) out) out) out
+
+  -- What a contract says of a call, in one form for every record. Of a constructor, with the fields' numbers vs:
+  pub record Built (vs : List ℕ) (n : ℕ) (v : R) : Type 0 where
+    pub number : n ≡ fieldsNumber vs
+    pub value : v ≡ fieldsValue vs
+
+  -- of a decoder, on the bytes s:
+  pub record Decoded (s : List ℕ) (n : ℕ) (v : R) : Type 0 where
+    pub number : n ≡ decodeNumber s
+    pub value : v ≡ decodeValue s
+
+  -- of an encoder, whose output held out and holds out′ then:
+  pub record Encoded (v : R) (out : List ℕ) (n : ℕ) (out′ : List ℕ) : Type 0 where
+    pub number : n ≡ encodeNumber v out
+    pub output : out′ ≡ encodeBytes v out
