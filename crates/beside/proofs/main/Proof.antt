@@ -1,0 +1,25 @@
+-- `main`: the count of blocks rises to its bound, so the loop ends. Assumes nothing.
+use Prim.Native.Nat.{_-_}
+use borrow.Author.Needs.{needs}
+use Rattle.beside.proofs.main.Statement.{statement}
+use Rattle.beside.proofs.main.Tie as tie
+
+abbrev Inv-loop : tie.InvT-loop
+Inv-loop blocks₀ blocks = Unit {0}
+
+abbrev μ-loop : tie.MeasureT-loop
+μ-loop blocks₀ blocks = 1_000_000_000_000 - blocks
+
+pub main-spec : {M : Type 1} → statement M
+main-spec =
+    tie.close
+    (tie.spec
+    Inv-loop
+    μ-loop
+    (λ c. search needs)
+    (λ c κs. search needs)
+    (λ c. search needs)
+    (λ c. search needs)
+    (λ c. search needs)
+    (λ c. search needs)
+    (λ c. search needs))
