@@ -51,7 +51,10 @@ fn finish(done: Result<(), String>) -> ExitCode {
 
 /// Runs the suites, each against a process of its own. A line `suite NAME: passed` or `suite NAME: FAILED` ends each.
 fn run(amount: Amount, only: Option<&str>, command: &[&str]) -> ExitCode {
-    let chosen: Vec<&Suite> = SUITES.iter().filter(|suite| only.is_none_or(|name| name == suite.name)).collect();
+    let chosen: Vec<&Suite> = SUITES
+        .iter()
+        .filter(|suite| only.is_none_or(|name| name == suite.name))
+        .collect();
     if chosen.is_empty() {
         return finish(Err(format!("there is no suite {}", only.unwrap_or_default())));
     }

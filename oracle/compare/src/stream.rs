@@ -48,7 +48,11 @@ impl Block {
     /// The query whose answer holds byte `at` of the answers: the query, and its part of the answers.
     fn query_at(&self, at: usize) -> (&[u8], std::ops::Range<usize>) {
         let i = self.starts.partition_point(|start| start.1 <= at) - 1;
-        let end = self.starts.get(i + 1).copied().unwrap_or((self.queries.len(), self.answers.len()));
+        let end = self
+            .starts
+            .get(i + 1)
+            .copied()
+            .unwrap_or((self.queries.len(), self.answers.len()));
         (&self.queries[self.starts[i].0..end.0], self.starts[i].1..end.1)
     }
 }
@@ -95,7 +99,13 @@ pub fn compare(suite: &'static Suite, amount: Amount, command: &[&str]) -> Resul
     let mut from = child.stdout.take().expect("the child's output is a pipe");
     let (on, blocks) = sync_channel::<Block>(16);
     let feeder = std::thread::spawn(move || {
-        let mut feeder = Feeder { block: Block::default(), to, on, tally: BTreeMap::new(), stopped: false };
+        let mut feeder = Feeder {
+            block: Block::default(),
+            to,
+            on,
+            tally: BTreeMap::new(),
+            stopped: false,
+        };
         (suite.run)(&mut feeder, amount);
         feeder.flush();
         feeder.tally
@@ -144,7 +154,11 @@ fn differing(block: &Block, got: &[u8], before: u64) -> u64 {
 
 fn report(suite: &Suite, tally: &BTreeMap<&'static str, u64>, differences: u64, began: Instant) {
     let queries: u64 = tally.values().sum();
-    println!("{}: {queries} queries, {differences} differences, {:.1} s", suite.name, began.elapsed().as_secs_f64());
+    println!(
+        "{}: {queries} queries, {differences} differences, {:.1} s",
+        suite.name,
+        began.elapsed().as_secs_f64()
+    );
     for outcome in suite.outcomes {
         println!("  {outcome}: {}", tally.get(outcome).copied().unwrap_or(0));
     }
@@ -199,15 +213,23 @@ impl Sink for Chooser {
 }
 
 pub fn write_fixed(queries: &str, answers: &str) -> Result<(), String> {
-    let create = |name: &str| File::create(name).map(BufWriter::new).map_err(|error| format!("{name}: {error}"));
+    let create = |name: &str| {
+        File::create(name)
+            .map(BufWriter::new)
+            .map_err(|error| format!("{name}: {error}"))
+    };
     let (mut to_queries, mut to_answers) = (create(queries)?, create(answers)?);
     let mut count = 0;
     for suite in SUITES {
         let mut chooser = Chooser::default();
         (suite.run)(&mut chooser, Amount::Sample);
         for block in &chooser.kept {
-            block.write_to(&mut to_queries).map_err(|error| format!("{queries}: {error}"))?;
-            to_answers.write_all(&block.answers).map_err(|error| format!("{answers}: {error}"))?;
+            block
+                .write_to(&mut to_queries)
+                .map_err(|error| format!("{queries}: {error}"))?;
+            to_answers
+                .write_all(&block.answers)
+                .map_err(|error| format!("{answers}: {error}"))?;
             count += block.starts.len();
         }
     }

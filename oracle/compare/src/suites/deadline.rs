@@ -30,7 +30,18 @@ fn around(value: u64) -> [u64; 3] {
 }
 
 fn run(sink: &mut dyn Sink, amount: Amount) {
-    let centres = [0, 100, 200, CEILING, 2 * CEILING, CEILING + 100, 1 << 32, 1 << 63, u64::MAX - CEILING, u64::MAX - 1];
+    let centres = [
+        0,
+        100,
+        200,
+        CEILING,
+        2 * CEILING,
+        CEILING + 100,
+        1 << 32,
+        1 << 63,
+        u64::MAX - CEILING,
+        u64::MAX - 1,
+    ];
     let values: Vec<u64> = centres.into_iter().flat_map(around).collect();
     for &observed in &values {
         for &prior in &values {
@@ -48,10 +59,17 @@ fn run(sink: &mut dyn Sink, amount: Amount) {
 
 /// A query near the boundaries: the prior deadline a little around the clock, the requested one around clock, prior or ceiling.
 fn near(sink: &mut dyn Sink, rng: &mut Rng) {
-    let observed = if rng.one_in(8) { u64::MAX - (rng.next() % (2 * CEILING)) } else { rng.next() % (1 << 50) };
+    let observed = if rng.one_in(8) {
+        u64::MAX - (rng.next() % (2 * CEILING))
+    } else {
+        rng.next() % (1 << 50)
+    };
     let small = |rng: &mut Rng| rng.next() % 4;
     let ahead = [0, 1, CEILING / 2, CEILING, 2 * CEILING];
-    let prior = observed.wrapping_add(rng.pick(&ahead)).wrapping_add(small(rng)).wrapping_sub(2);
+    let prior = observed
+        .wrapping_add(rng.pick(&ahead))
+        .wrapping_add(small(rng))
+        .wrapping_sub(2);
     let from = rng.pick(&[observed, observed.wrapping_add(CEILING), prior]);
     let requested = from.wrapping_add(small(rng)).wrapping_sub(2);
     ask(sink, observed, prior, requested);

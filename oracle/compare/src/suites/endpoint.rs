@@ -57,13 +57,23 @@ fn made(endpoint: Option<ProtectedEndpoint>) -> Vec<u8> {
 fn ask_ipv4(sink: &mut dyn Sink, address: [u8; 4], port: u16) {
     let answer = ProtectedEndpoint::ipv4(address, port);
     let outcome = if answer.is_some() { "IPv4 accepted" } else { "IPv4 refused" };
-    sink.push(IPV4, &[address.as_slice(), &port.to_le_bytes()].concat(), &made(answer), outcome);
+    sink.push(
+        IPV4,
+        &[address.as_slice(), &port.to_le_bytes()].concat(),
+        &made(answer),
+        outcome,
+    );
 }
 
 fn ask_ipv6(sink: &mut dyn Sink, address: [u8; 16], port: u16) {
     let answer = ProtectedEndpoint::ipv6(address, port);
     let outcome = if answer.is_some() { "IPv6 accepted" } else { "IPv6 refused" };
-    sink.push(IPV6, &[address.as_slice(), &port.to_le_bytes()].concat(), &made(answer), outcome);
+    sink.push(
+        IPV6,
+        &[address.as_slice(), &port.to_le_bytes()].concat(),
+        &made(answer),
+        outcome,
+    );
 }
 
 fn run_made(sink: &mut dyn Sink, amount: Amount) {
@@ -126,7 +136,10 @@ fn near_ipv6(rng: &mut Rng) -> [u8; 16] {
 /// The original's endpoint of a family, its address and port; none for a family that the original cannot hold.
 fn original(family: u8, address: &[u8; 16], port: u16) -> Option<ProtectedEndpoint> {
     match family {
-        4 => Some(ProtectedEndpoint::Ipv4 { address: [address[0], address[1], address[2], address[3]], port }),
+        4 => Some(ProtectedEndpoint::Ipv4 {
+            address: [address[0], address[1], address[2], address[3]],
+            port,
+        }),
         6 => Some(ProtectedEndpoint::Ipv6 { address: *address, port }),
         _ => None,
     }
@@ -139,7 +152,12 @@ fn ask_match_ipv4(sink: &mut dyn Sink, family: u8, own: [u8; 16], own_port: u16,
         Some(endpoint) if endpoint.matches_ipv4(address, port) => (true, "IPv4 source matches"),
         Some(_) => (false, "IPv4 source differs"),
     };
-    let body = [endpoint_bytes(family, &own, own_port).as_slice(), &address, &port.to_le_bytes()].concat();
+    let body = [
+        endpoint_bytes(family, &own, own_port).as_slice(),
+        &address,
+        &port.to_le_bytes(),
+    ]
+    .concat();
     sink.push(MATCHES_IPV4, &body, &[answer.into()], outcome);
 }
 
@@ -150,7 +168,12 @@ fn ask_match_ipv6(sink: &mut dyn Sink, family: u8, own: [u8; 16], own_port: u16,
         Some(endpoint) if endpoint.matches_ipv6(address, port) => (true, "IPv6 source matches"),
         Some(_) => (false, "IPv6 source differs"),
     };
-    let body = [endpoint_bytes(family, &own, own_port).as_slice(), &address, &port.to_le_bytes()].concat();
+    let body = [
+        endpoint_bytes(family, &own, own_port).as_slice(),
+        &address,
+        &port.to_le_bytes(),
+    ]
+    .concat();
     sink.push(MATCHES_IPV6, &body, &[answer.into()], outcome);
 }
 
@@ -184,7 +207,18 @@ fn random_match(sink: &mut dyn Sink, rng: &mut Rng) {
     }
     let any = rng.next() as u16;
     let own_port = rng.pick(&[0, 4500, any]);
-    let port = if rng.one_in(4) { own_port ^ (1 << rng.below(16)) } else { own_port };
-    ask_match_ipv4(sink, family, own, own_port, [source[0], source[1], source[2], source[3]], port);
+    let port = if rng.one_in(4) {
+        own_port ^ (1 << rng.below(16))
+    } else {
+        own_port
+    };
+    ask_match_ipv4(
+        sink,
+        family,
+        own,
+        own_port,
+        [source[0], source[1], source[2], source[3]],
+        port,
+    );
     ask_match_ipv6(sink, family, own, own_port, source, port);
 }
