@@ -6,3 +6,4 @@ pub mod EntryLaws
 pub mod CookieValueLaws
 pub mod AddressLaws
 pub mod ConfigLaws
+pub mod InspectionLaws

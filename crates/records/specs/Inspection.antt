@@ -22,7 +22,7 @@ abbrev pub inspectionMark : ℕ
 inspectionMark = 0x4f45_4931
 
 -- of mark, version, the zero after the flag
-abbrev pub headRule : ℕ → ℕ → ℕ → Bool
+unfoldable pub headRule : ℕ → ℕ → ℕ → Bool
 headRule mark version pad = eqb mark inspectionMark && (eqb version 5 && eqb pad 0)
 
 -- the flag of the inner entry, and its six numbers: all zero where there is none
@@ -34,17 +34,30 @@ abbrev pub partFields : InspectedEntry → List ℕ
 partFields Absent = 0 ∷ 0 ∷ 0 ∷ 0 ∷ 0 ∷ 0 ∷ []
 partFields (Present v) = cookieValueCodec .fields v
 
--- a flag and six numbers: flag 0 with zeros, flag 1 with a cookie value
+-- the inner entry by its numbers
+abbrev pub partNumbers : InspectedEntry → List ℕ
+partNumbers e = presentFlag e ∷ partFields e
+
+-- under a flag, six numbers: flag 0 zeros, flag 1 a cookie value
 unfoldable pub partRule : ℕ → List ℕ → Bool
 partRule flag vs = cond (eqb flag 0) (allZero vs) (cond (eqb flag 1) (cookieValueCodec .ok vs) false)
 
-abbrev pub partOf : ℕ → List ℕ → InspectedEntry
-partOf flag vs = cond (eqb flag 0) Absent (Present (cookieValueCodec .of vs))
+abbrev pub partCodec : ℕ → Codec InspectedEntry
+partCodec flag = record {
+  layout = cookieValueCodec .layout;
+  ok = partRule flag;
+  of = λ vs. cond (eqb flag 0) Absent (Present (cookieValueCodec .of vs));
+  fields = partFields;
+  blank = Absent;
+}
 
 abbrev pub inspection : CurrentFenceToken → FenceMutationAuthority → InspectedEntry → FenceInspection
 inspection c m e = record { current = c; mutation = m; entry = e }
 
--- the forty zeros at the end
+-- the fields before the parts, and the forty zeros after them
+abbrev pub headLayout : List Field
+headLayout = big 4 ∷ little 2 ∷ little 1 ∷ little 1 ∷ []
+
 abbrev pub tailLayout : List Field
 tailLayout = little 8 ∷ little 8 ∷ little 8 ∷ little 8 ∷ little 8 ∷ []
 
@@ -53,14 +66,15 @@ zeroTail = 0 ∷ 0 ∷ 0 ∷ 0 ∷ 0 ∷ []
 
 abbrev pub inspectionCodec : Codec FenceInspection
 inspectionCodec = record {
-  layout = big 4 ∷ little 2 ∷ little 1 ∷ little 1 ∷ (currentCodec .layout ++ (mutationCodec .layout ++ (cookieValueCodec .layout ++ tailLayout)));
+  layout = headLayout ++ (currentCodec .layout ++ (mutationCodec .layout ++ (cookieValueCodec .layout ++ tailLayout)));
   ok = λ vs.
       headRule (getD vs 0 0) (getD vs 1 0) (getD vs 3 0) &&
+      (allZero (drop 16 vs) &&
       (currentCodec .ok (take 4 (drop 4 vs)) &&
       (mutationCodec .ok (take 2 (drop 8 vs)) &&
-      (partRule (getD vs 2 0) (take 6 (drop 10 vs)) &&
-      allZero (drop 16 vs))));
-  of = λ vs. inspection (currentCodec .of (take 4 (drop 4 vs))) (mutationCodec .of (take 2 (drop 8 vs))) (partOf (getD vs 2 0) (take 6 (drop 10 vs)));
+      partRule (getD vs 2 0) (take 6 (drop 10 vs)))));
+  of = λ vs.
+      inspection (currentCodec .of (take 4 (drop 4 vs))) (mutationCodec .of (take 2 (drop 8 vs))) (partCodec (getD vs 2 0) .of (take 6 (drop 10 vs)));
   fields = λ v.
       inspectionMark ∷ 5 ∷ presentFlag (v .entry) ∷ 0 ∷
       (currentCodec .fields (v .current) ++ (mutationCodec .fields (v .mutation) ++ (partFields (v .entry) ++ zeroTail)));

@@ -32,7 +32,7 @@ fn rule(zeros: u32, control: u32, cookie: u64, token: u64, deadline: u64, epoch:
     zeros == 0 && (cookie != 0 && crate::entry::state_rule(control, token, deadline, epoch))
 }
 
-pub(crate) fn refused(number: u32) -> CookieValueAnswer
+fn refused(number: u32) -> CookieValueAnswer
     ensures { λ r. ⌜ (r .number ≡ number) × (r .value ≡ cookieValueCodec .blank) ⌝ }
 {
     CookieValueAnswer {
