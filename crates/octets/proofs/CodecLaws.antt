@@ -9,16 +9,16 @@ use Prim.Native.Nat.{ℕ, _<_, _≤_}
 use native.Mathlib.Omega.{arith}
 use lib.ListN.{length}
 use lib.Dec.{eqb}
-use borrow.Author.Tests.{eqb-true, eq-eqb, le-leb, lt-leb}
+use borrow.Author.Tests.{eqb-true, eq-eqb, ne-eqb, le-leb, lt-leb}
 use Rattle.octets.specs.Octets.{Bytes}
 use Rattle.octets.specs.Layout.{size, fieldsAt, puts, Fit}
-use Rattle.octets.specs.Codec.{Codec, decodeNumber, decodeValue, sound, bytes, encodeNumber, encodeBytes, Encoded}
+use Rattle.octets.specs.Codec.{Codec, asking, fieldsNumber, fieldsValue, decodeNumber, decodeValue, sound, bytes, encodeNumber, encodeBytes, Built, Decoded, Encoded}
 use Rattle.octets.proofs.LayoutLaws.{laid-fields, fields-laid, length-laid, puts-laid, put-laid}
 
 -- What a record owes. `Formed v` says that v is a value of its type: each number within its width, each array of its length.
 pub record Lawful {R : Type 0} (C : Codec R) (Formed : R → Type 0) : Type 0 where
-  -- accepted numbers are those of the record that they stand for
-  pub back : (s : List ℕ) (at : ℕ) → C .ok (fieldsAt (C .layout) s at) ≡ true → C .fields (C .of (fieldsAt (C .layout) s at)) ≡ fieldsAt (C .layout) s at
+  -- accepted numbers, read from bytes at any place, are those of the record that they stand for
+  pub back : (s : List ℕ) (at : ℕ) → Bytes s → C .ok (fieldsAt (C .layout) s at) ≡ true → C .fields (C .of (fieldsAt (C .layout) s at)) ≡ fieldsAt (C .layout) s at
   -- a sound record is the one that its numbers stand for
   pub forth : (v : R) → Formed v → sound C v ≡ true → C .of (C .fields v) ≡ v
   -- and its numbers fit their fields
@@ -35,7 +35,7 @@ module _ {R : Type 0} (C : Codec R) (Formed : R → Type 0) (L : Lawful C Formed
   unfolding decodeNumber decodeValue
   accepted s h e =
       let both = zero-both (eqb (length s) (size (C .layout))) (C .ok (fieldsAt (C .layout) s 0)) e in
-      let back = L .back s 0 (both .1) in
+      let back = L .back s 0 h (both .1) in
       (simp (both .0, both .1) (ap (C .ok) back ∙ both .1), simp (both .0, both .1, back) (laid-fields (C .layout) s h (eqb-true _ _ (both .0))))
 
   -- a sound record decodes to itself
@@ -50,6 +50,46 @@ module _ {R : Type 0} (C : Codec R) (Formed : R → Type 0) (L : Lawful C Formed
   -- an unsound record is given for no bytes
   pub never : (s : List ℕ) (v : R) → Bytes s → sound C v ≡ false → decodeNumber C s ≡ 0 → decodeValue C s ≡ v → ⊥
   never s v h u e q = true≢false (sym (accepted s h e .0) ∙ ap (sound C) q ∙ u)
+
+-- The answers of a constructor, and of whatever reads the fields' numbers.
+two-ways : (b : Bool) (n : ℕ) → n ≡ cond b 0 2 → (n ≡ 0 → b ≡ true) × ((n ≡ 0 → ⊥) → b ≡ false)
+two-ways true n e = (λ z. refl, λ h. absurd (h e))
+two-ways false n e = (λ z. absurd (omega arith), λ h. refl)
+
+module _ {R : Type 0} (C : Codec R) {vs : List ℕ} {n : ℕ} {v : R} where
+  pub built-done : C .ok vs ≡ true → n ≡ 0 → v ≡ C .of vs → Built C vs n v
+  built-done e p q = record { number = simp e p; value = simp e q }
+
+  pub built-refused : C .ok vs ≡ false → (n ≡ 2) × (v ≡ C .blank) → Built C vs n v
+  built-refused e p = record { number = simp e (p .0); value = simp e (p .1) }
+
+  -- the same of numbers that are equal
+  pub built-of : {ws : List ℕ} → ws ≡ vs → Built C ws n v → Built C vs n v
+  built-of e b = record { number = b .number ∙ ap (fieldsNumber C) e; value = b .value ∙ ap (fieldsValue C) e }
+
+  -- the same of a codec that asks what holds
+  pub built-asked : (b : Bool) → b ≡ true → Built C vs n v → Built (asking b C) vs n v
+  built-asked b e p = record { number = simp e (p .number); value = simp e (p .value) }
+
+  -- and what an answer tells of the numbers: 0 that the rule holds and the record is theirs, another that it does not hold
+  pub done-ok : Built C vs n v → n ≡ 0 → C .ok vs ≡ true
+  done-ok b = two-ways (C .ok vs) n (b .number) .0
+
+  pub done-value : Built C vs n v → n ≡ 0 → v ≡ C .of vs
+  done-value b z = simp (done-ok b z) at (b .value)
+
+  pub refused-ok : Built C vs n v → (n ≡ 0 → ⊥) → C .ok vs ≡ false
+  refused-ok b = two-ways (C .ok vs) n (b .number) .1
+
+-- The answers of a decoder, in 01's order: 1 before 2.
+module _ {R : Type 0} (C : Codec R) {s : List ℕ} {n : ℕ} {v : R} where
+  pub decode-length : (length s ≡ size (C .layout) → ⊥) → (n ≡ 1) × (v ≡ C .blank) → Decoded C s n v
+  unfolding decodeNumber decodeValue
+  decode-length h p = record { number = simp (ne-eqb _ _ h) (p .0); value = simp (ne-eqb _ _ h) (p .1) }
+
+  pub decode-read : length s ≡ size (C .layout) → Built C (fieldsAt (C .layout) s 0) n v → Decoded C s n v
+  unfolding decodeNumber decodeValue
+  decode-read e b = record { number = simp (eq-eqb _ _ e) (b .number); value = simp (eq-eqb _ _ e) (b .value) }
 
 -- The answers of an encoder, in 01's order: 3 before 4.
 module _ {R : Type 0} (C : Codec R) (v : R) (out : List ℕ) where

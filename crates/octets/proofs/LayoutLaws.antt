@@ -71,3 +71,11 @@ pub put-laid : (fs : List Field) (vs d : List ℕ) → Fit fs vs → size fs ≤
 put-laid fs vs d h room =
     let e : length (laid fs vs) ≡ size fs = length-laid fs vs h in
     rw (zero-add, e) at (put-in d 0 (laid fs vs) (omega arith))
+
+-- ---- a layout made of two
+
+pub fit-append : (fs gs : List Field) (vs ws : List ℕ) → Fit fs vs → Fit gs ws → Fit (fs ++ gs) (vs ++ ws)
+fit-append [] gs [] ws h k = k
+fit-append [] gs (v ∷ vs) ws h k = absurd h
+fit-append (f ∷ fs) gs [] ws h k = absurd h
+fit-append (f ∷ fs) gs (v ∷ vs) ws h k = (h .0, fit-append fs gs vs ws (h .1) k)

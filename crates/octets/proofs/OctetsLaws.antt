@@ -69,6 +69,15 @@ pub be-one : (s : List ℕ) (at : ℕ) → be (octetsAt s at 1) ≡ le (octetsAt
 unfolding be octetsAt
 be-one s at = refl
 
+-- n octets spell a number below 256 ^ n
+pub le-below : (s : List ℕ) → Bytes s → le s < 256 ^ length s
+unfolding le
+le-below [] h = lit< tt
+le-below (b ∷ s) h =
+    let rest : le s < 256 ^ length s = le-below s (λ i. h (suc i)) in
+    let first : b < 256 = h 0 in
+    rw pow-suc (omega arith)
+
 -- ---- the bytes of a number
 
 pub length-leBytes : (n v : ℕ) → length (leBytes n v) ≡ n

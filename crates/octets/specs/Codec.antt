@@ -2,7 +2,7 @@
 -- Assumes nothing.
 use Prim.Native.Nat.{ℕ}
 use mathlib.Core.Path.{_≡_}
-use mathlib.Core.Bool.{Bool, cond}
+use mathlib.Core.Bool.{Bool, cond, _&&_}
 use mathlib.Core.List.{List, _++_}
 use lib.ListN.{length, drop}
 use lib.Dec.{leb, eqb}
@@ -18,6 +18,10 @@ pub record Codec (R : Type 0) : Type 0 where
   pub fields : R → List ℕ
   -- the all-zero record, which stands in every refusal
   pub blank : R
+
+-- a codec whose rule asks b besides: that of a constructor which refuses more than the rule on the fields does
+abbrev pub asking : {R : Type 0} → Bool → Codec R → Codec R
+asking b C = record { layout = C .layout; ok = λ vs. b && C .ok vs; of = C .of; fields = C .fields; blank = C .blank }
 
 module _ {R : Type 0} (C : Codec R) where
   -- of the fields' numbers, as a constructor has them: 0 done, or 2 and the all-zero record

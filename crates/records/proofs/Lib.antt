@@ -1,0 +1,9 @@
+-- What is shown of `records` beside the proofs of its functions. Assumes nothing.
+pub mod MutationLaws
+pub mod KeyLaws
+pub mod CurrentLaws
+pub mod EntryLaws
+pub mod CookieValueLaws
+pub mod AddressLaws
+pub mod ConfigLaws
+pub mod InspectionLaws

@@ -1,0 +1,53 @@
+-- `decode`: the length first, then the fields, whose numbers are those of the layout. Assumes nothing.
+use Rattle.octets.proofs.CodecLaws.{built-of, decode-length, decode-read}
+use Rattle.records.specs.Config.{configCodec}
+use borrow.Author.Needs.{needs}
+use Rattle.records.proofs.config.FenceConfig.decode.Statement.{statement}
+use Rattle.records.proofs.config.FenceConfig.decode.Tie as tie
+
+returns : tie.Need-returns
+returns c = decode-length configCodec (c .before .if1 .taken) (c .refused .ensures)
+
+returns-2 : tie.Need-returns-2
+returns-2 c =
+    let f9 = c .before in
+    let f8 = f9 .before in
+    let f7 = f8 .before in
+    let f6 = f7 .before in
+    let f5 = f6 .before in
+    let f4 = f5 .before in
+    let f3 = f4 .before in
+    let f2 = f3 .before in
+    let f1 = f2 .before in
+    let f0 = f1 .before in
+    decode-read configCodec (f0 .before .if1 .left) (rw (
+      ← f0 .get-u32-be .ensures,
+      ← f1 .get-u16-le .ensures,
+      ← f2 .get-u8 .ensures,
+      ← f3 .get-u82 .ensures,
+      ← f4 .get-u16-be .ensures,
+      ← f5 .get-u16-le2 .ensures,
+      ← f6 .get-u32-le .ensures,
+      ← f7 .get-u64-le .ensures,
+      ← f8 .get-u64-le2 .ensures,
+      ← f9 .get-u64-le3 .ensures,
+    ) (c .from-fields .ensures))
+
+pub decode-spec : {M : Type 1} → statement M
+decode-spec =
+    tie.close
+    (tie.spec
+    (λ c κs. search needs)
+    returns
+    (λ c κs. search needs)
+    (λ c κs. search needs)
+    (λ c κs. search needs)
+    (λ c κs. search needs)
+    (λ c κs. search needs)
+    (λ c κs. search needs)
+    (λ c κs. search needs)
+    (λ c κs. search needs)
+    (λ c κs. search needs)
+    (λ c κs. search needs)
+    (λ c κs. search needs)
+    returns-2)

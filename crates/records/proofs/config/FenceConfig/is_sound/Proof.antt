@@ -1,0 +1,33 @@
+-- `is_sound`: the rule on the record's own numbers. Assumes nothing.
+use borrow.Author.Tests.{not-true, not-false}
+use borrow.Author.Needs.{needs}
+use Rattle.records.proofs.config.FenceConfig.is_sound.Statement.{statement}
+use Rattle.records.proofs.config.FenceConfig.is_sound.Tie as tie
+
+returns : tie.Need-returns
+returns c =
+    let f = c .before .frame-rule in
+    simp (← f .ensures, not-true (f .result) (c .if1 .taken))
+
+returns-2 : tie.Need-returns-2
+returns-2 c =
+    let e = c .before in
+    let second = e .before in
+    let first = second .before .before in
+    let frame = first .before .before .before in
+    let f = frame .before .frame-rule in
+    simp (← f .ensures, not-false (f .result) (frame .if1 .left), ← first .get-u64-le .ensures, ← second .get-u64-le2 .ensures, ← e .endpoint-of .ensures) (c .is-sound .ensures)
+
+pub is-sound-spec : {M : Type 1} → statement M
+is-sound-spec =
+    tie.close
+    (tie.spec
+    (λ c κs. search needs)
+    returns
+    (λ c. search needs)
+    (λ c κs. search needs)
+    (λ c. search needs)
+    (λ c κs. search needs)
+    (λ c κs. search needs)
+    (λ c κs. search needs)
+    returns-2)

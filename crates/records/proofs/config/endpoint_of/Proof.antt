@@ -1,0 +1,22 @@
+-- `endpoint_of`: two stores into sixteen zeros are the octets of the two numbers. Assumes nothing.
+use mathlib.Core.Path.{ap, _∙_}
+use Rattle.records.specs.Config.{endpointOf}
+use Rattle.records.proofs.AddressLaws.{stored}
+use borrow.Author.Needs.{needs}
+use Rattle.records.proofs.config.endpoint_of.Statement.{statement}
+use Rattle.records.proofs.config.endpoint_of.Tie as tie
+
+returns : tie.Need-returns
+returns c =
+    let first = c .before .before .before .before in
+    rw (c .before .put-u64-le2 .ensures, first .put-u64-le .ensures, stored)
+
+pub endpoint-of-spec : {M : Type 1} → statement M
+endpoint-of-spec =
+    tie.close
+    (tie.spec
+    (λ c. search needs)
+    (λ c κs. search needs)
+    (λ c. search needs)
+    (λ c κs. search needs)
+    returns)

@@ -1,0 +1,21 @@
+-- `rule`: the zeros and the cookie, and then the rule on the state. Assumes nothing.
+use borrow.Author.Tests.{eq-eqb, ne-eqb}
+use Rattle.records.specs.CookieValue.{cookieValueRule}
+use borrow.Author.Needs.{needs}
+use Rattle.records.proofs.cookie_value.rule.Statement.{statement}
+use Rattle.records.proofs.cookie_value.rule.Tie as tie
+
+returns : tie.Need-returns
+unfolding cookieValueRule
+returns c = simp (eq-eqb _ _ (c .before .before .if1 .taken), ne-eqb _ _ (c .before .if2 .taken)) (c .state-rule .ensures)
+
+returns-2 : tie.Need-returns-2
+unfolding cookieValueRule
+returns-2 c = simp (eq-eqb _ _ (c .before .if1 .taken), eq-eqb _ _ (c .if2 .left))
+
+returns-3 : tie.Need-returns-3
+unfolding cookieValueRule
+returns-3 c = simp (ne-eqb _ _ (c .if1 .left))
+
+pub rule-spec : {M : Type 1} → statement M
+rule-spec = tie.close (tie.spec (λ c κs. search needs) returns returns-2 returns-3)

@@ -1,0 +1,13 @@
+-- `is_lifecycle_open`: the two tests of the definition. Assumes nothing.
+use borrow.Author.Tests.{eq-eqb, ne-eqb}
+use Rattle.records.proofs.current.CurrentFenceToken.is_lifecycle_open.Statement.{statement}
+use Rattle.records.proofs.current.CurrentFenceToken.is_lifecycle_open.Tie as tie
+
+returns : tie.Need-returns
+returns c = simp (ne-eqb _ _ (c .before .if1 .taken))
+
+returns-2 : tie.Need-returns-2
+returns-2 c = simp (eq-eqb _ _ (c .if1 .left))
+
+pub is-lifecycle-open-spec : {M : Type 1} → statement M
+is-lifecycle-open-spec = tie.close (tie.spec returns returns-2)

@@ -1,0 +1,10 @@
+-- `is_sound`: the rule on the record's own numbers. Assumes nothing.
+use borrow.Author.Needs.{needs}
+use Rattle.records.proofs.current.CurrentFenceToken.is_sound.Statement.{statement}
+use Rattle.records.proofs.current.CurrentFenceToken.is_sound.Tie as tie
+
+returns : tie.Need-returns
+returns c = cc
+
+pub is-sound-spec : {M : Type 1} → statement M
+is-sound-spec = tie.close (tie.spec (λ c κs. search needs) (λ c κs. search needs) returns)

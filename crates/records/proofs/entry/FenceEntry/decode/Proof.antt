@@ -1,0 +1,26 @@
+-- `decode`: the length first, then the fields, whose numbers are those of the layout. Assumes nothing.
+use Rattle.octets.proofs.CodecLaws.{built-of, decode-length, decode-read}
+use Rattle.records.specs.Entry.{entryCodec}
+use borrow.Author.Needs.{needs}
+use Rattle.records.proofs.entry.FenceEntry.decode.Statement.{statement}
+use Rattle.records.proofs.entry.FenceEntry.decode.Tie as tie
+
+returns : tie.Need-returns
+returns c = decode-length entryCodec (c .before .if1 .taken) (c .refused .ensures)
+
+returns-2 : tie.Need-returns-2
+returns-2 c = decode-read entryCodec (c .before .before .before .before .before .before .if1 .left) (built-of entryCodec (cc) (c .from-fields .ensures))
+
+pub decode-spec : {M : Type 1} → statement M
+decode-spec =
+    tie.close
+    (tie.spec
+    (λ c κs. search needs)
+    returns
+    (λ c κs. search needs)
+    (λ c κs. search needs)
+    (λ c κs. search needs)
+    (λ c κs. search needs)
+    (λ c κs. search needs)
+    (λ c κs. search needs)
+    returns-2)

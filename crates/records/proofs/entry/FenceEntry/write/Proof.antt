@@ -1,0 +1,20 @@
+-- `write`: one store for each field, in the order of the layout. Assumes nothing.
+use borrow.Author.Needs.{needs}
+use Rattle.records.proofs.entry.FenceEntry.write.Statement.{statement}
+use Rattle.records.proofs.entry.FenceEntry.write.Tie as tie
+
+returns : tie.Need-returns
+returns c = cc
+
+pub write-spec : {M : Type 1} → statement M
+write-spec =
+    tie.close
+    (tie.spec
+    (λ c κs. search needs)
+    (λ c κs. search needs)
+    (λ c κs. search needs)
+    (λ c κs. search needs)
+    (λ c κs. search needs)
+    (λ c κs. search needs)
+    (λ c. search needs)
+    returns)

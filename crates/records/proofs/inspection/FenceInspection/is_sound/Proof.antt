@@ -1,0 +1,27 @@
+-- `is_sound`: a record is sound where its parts are. Assumes nothing.
+use Rattle.records.proofs.InspectionLaws.{inspection-sound}
+use borrow.Author.Needs.{needs}
+use Rattle.records.proofs.inspection.FenceInspection.is_sound.Statement.{statement}
+use Rattle.records.proofs.inspection.FenceInspection.is_sound.Tie as tie
+
+returns : tie.Need-returns
+returns c =
+    let two = c .before .before in
+    rw (inspection-sound, ← two .before .before .is-sound .ensures, two .before .if1 .taken, ← two .is-sound2 .ensures, c .before .if2 .taken) (c .is-sound3 .ensures)
+
+returns-2 : tie.Need-returns-2
+returns-2 c = rw (inspection-sound, ← c .before .before .before .is-sound .ensures, c .before .before .if1 .taken, ← c .before .is-sound2 .ensures, c .if2 .left)
+
+returns-3 : tie.Need-returns-3
+returns-3 c = rw (inspection-sound, ← c .before .is-sound .ensures, c .if1 .left)
+
+pub is-sound-spec : {M : Type 1} → statement M
+is-sound-spec =
+    tie.close
+    (tie.spec
+    (λ c κs. search needs)
+    (λ c κs. search needs)
+    (λ c κs. search needs)
+    returns
+    returns-2
+    returns-3)

@@ -1,0 +1,17 @@
+-- `is_sound`: by the two cases. Assumes nothing.
+use Rattle.records.specs.Inspection.{partRule}
+use Rattle.octets.specs.Octets.{allZero}
+use borrow.Author.Needs.{needs}
+use Rattle.records.proofs.inspection.InspectedEntry.is_sound.Statement.{statement}
+use Rattle.records.proofs.inspection.InspectedEntry.is_sound.Tie as tie
+
+returns : tie.Need-returns
+unfolding partRule allZero
+returns c = rw (c .enum-told .given .1)
+
+returns-2 : tie.Need-returns-2
+unfolding partRule
+returns-2 c = rw (c .before .before .self .given .1) (c .is-sound .ensures)
+
+pub is-sound-spec : {M : Type 1} → statement M
+is-sound-spec = tie.close (tie.spec (λ c. search needs) (λ c. search needs) (λ c κs. search needs) returns returns-2)

@@ -1,0 +1,39 @@
+-- `part_is_zero`: one test for each number of the list. Assumes nothing.
+use borrow.Author.Tests.{eq-eqb, ne-eqb}
+use Rattle.octets.specs.Octets.{allZero}
+use borrow.Author.Needs.{needs}
+use Rattle.records.proofs.inspection.part_is_zero.Statement.{statement}
+use Rattle.records.proofs.inspection.part_is_zero.Tie as tie
+
+returns : tie.Need-returns
+unfolding allZero
+returns c =
+    let g = c .before .before .before in
+    rw (← g .before .before .before .before .before .get-u32-le .ensures, ← g .before .before .before .before .get-u32-le2 .ensures, ← g .before .before .before .get-u64-le .ensures, ← g .before .before .get-u64-le2 .ensures, ← g .before .get-u64-le3 .ensures, ← g .get-u64-le4 .ensures, eq-eqb _ _ (c .before .before .if1 .taken), eq-eqb _ _ (c .before .if2 .taken)) (c .four-zeros .ensures)
+
+returns-2 : tie.Need-returns-2
+unfolding allZero
+returns-2 c =
+    let g = c .before .before in
+    rw (← g .before .before .before .before .before .get-u32-le .ensures, ← g .before .before .before .before .get-u32-le2 .ensures, ← g .before .before .before .get-u64-le .ensures, ← g .before .before .get-u64-le2 .ensures, ← g .before .get-u64-le3 .ensures, ← g .get-u64-le4 .ensures, eq-eqb _ _ (c .before .if1 .taken), ne-eqb _ _ (c .if2 .left))
+
+returns-3 : tie.Need-returns-3
+unfolding allZero
+returns-3 c =
+    let g = c .before in
+    rw (← g .before .before .before .before .before .get-u32-le .ensures, ← g .before .before .before .before .get-u32-le2 .ensures, ← g .before .before .before .get-u64-le .ensures, ← g .before .before .get-u64-le2 .ensures, ← g .before .get-u64-le3 .ensures, ← g .get-u64-le4 .ensures, ne-eqb _ _ (c .if1 .left))
+
+pub part-is-zero-spec : {M : Type 1} → statement M
+part-is-zero-spec =
+    tie.close
+    (tie.spec
+    (λ c κs. search needs)
+    (λ c κs. search needs)
+    (λ c κs. search needs)
+    (λ c κs. search needs)
+    (λ c κs. search needs)
+    (λ c κs. search needs)
+    (λ c κs. search needs)
+    returns
+    returns-2
+    returns-3)

@@ -1,0 +1,96 @@
+-- `read`: each part answers for its own bytes, in the order of the rule. Assumes nothing.
+use mathlib.Core.Path.{refl, sym, _∙_}
+use borrow.Author.Tests.{not-true, not-false}
+use Rattle.octets.specs.Octets.{octetsAt, le}
+use Rattle.octets.proofs.CodecLaws.{built-done, built-refused, done-ok, done-value, refused-ok}
+use Rattle.records.specs.Current.{currentCodec}
+use Rattle.records.specs.Mutation.{mutationCodec}
+use Rattle.records.specs.Inspection.{partCodec, inspection, inspectionCodec}
+use borrow.Author.Needs.{needs}
+use Rattle.records.proofs.inspection.read.Statement.{statement}
+use Rattle.records.proofs.inspection.read.Tie as tie
+
+returns : tie.Need-returns
+returns c =
+    let h = c .before .before .head-is-right in
+    built-refused inspectionCodec (simp (← h .ensures, not-true (h .result) (c .before .if1 .taken))) (c .refused .ensures)
+
+returns-2 : tie.Need-returns-2
+returns-2 c =
+    let z = c .before .before in
+    let h = z .before .before in
+    let right = sym (h .head-is-right .ensures) ∙ not-false (h .head-is-right .result) (z .before .if1 .left) in
+    let tail = sym (z .tail-is-zero .ensures) ∙ not-true (z .tail-is-zero .result) (c .before .if2 .taken) in
+    built-refused inspectionCodec (rw (right, tail)) (c .refused2 .ensures)
+
+returns-3 : tie.Need-returns-3
+returns-3 c =
+    let r = c .before .before .before in
+    let z = r .before .before in
+    let h = z .before .before in
+    let right = sym (h .head-is-right .ensures) ∙ not-false (h .head-is-right .result) (z .before .if1 .left) in
+    let tail = sym (z .tail-is-zero .ensures) ∙ not-false (z .tail-is-zero .result) (r .before .if2 .left) in
+    built-refused inspectionCodec (rw (right, tail, refused-ok currentCodec (r .read .ensures) (c .before .if3 .taken))) (c .refused3 .ensures)
+
+returns-4 : tie.Need-returns-4
+returns-4 c =
+    let m = c .before .before .before in
+    let r = m .before .before .before in
+    let z = r .before .before in
+    let h = z .before .before in
+    let right = sym (h .head-is-right .ensures) ∙ not-false (h .head-is-right .result) (z .before .if1 .left) in
+    let tail = sym (z .tail-is-zero .ensures) ∙ not-false (z .tail-is-zero .result) (r .before .if2 .left) in
+    let current = done-ok currentCodec (r .read .ensures) (m .before .if3 .left) in
+    built-refused inspectionCodec (rw (right, tail, current, refused-ok mutationCodec (m .read2 .ensures) (c .before .if4 .taken))) (c .refused4 .ensures)
+
+returns-5 : tie.Need-returns-5
+returns-5 c =
+    let p = c .before .before .before in
+    let m = p .before .before .before in
+    let r = m .before .before .before in
+    let z = r .before .before in
+    let h = z .before .before in
+    let right = sym (h .head-is-right .ensures) ∙ not-false (h .head-is-right .result) (z .before .if1 .left) in
+    let tail = sym (z .tail-is-zero .ensures) ∙ not-false (z .tail-is-zero .result) (r .before .if2 .left) in
+    let current = done-ok currentCodec (r .read .ensures) (m .before .if3 .left) in
+    let mutation = done-ok mutationCodec (m .read2 .ensures) (p .before .if4 .left) in
+    let flag = le (octetsAt (h .before .before .args .s .now) 6 1) in
+    built-refused inspectionCodec (rw (right, tail, current, mutation, refused-ok (partCodec flag) (p .part .ensures) (c .before .if5 .taken))) (c .refused5 .ensures)
+
+returns-6 : tie.Need-returns-6
+returns-6 c =
+    let done = c .before .before in
+    let p = done .before .before in
+    let m = p .before .before .before in
+    let r = m .before .before .before in
+    let z = r .before .before in
+    let h = z .before .before in
+    let right = sym (h .head-is-right .ensures) ∙ not-false (h .head-is-right .result) (z .before .if1 .left) in
+    let tail = sym (z .tail-is-zero .ensures) ∙ not-false (z .tail-is-zero .result) (r .before .if2 .left) in
+    let current = done-ok currentCodec (r .read .ensures) (m .before .if3 .left) in
+    let mutation = done-ok mutationCodec (m .read2 .ensures) (p .before .if4 .left) in
+    let part = partCodec (le (octetsAt (h .before .before .args .s .now) 6 1)) in
+    built-done inspectionCodec (rw (right, tail, current, mutation, done-ok part (p .part .ensures) (done .if5 .left))) refl
+    (λ i. inspection (done-value currentCodec (r .read .ensures) (m .before .if3 .left) i) (done-value mutationCodec (m .read2 .ensures) (p .before .if4 .left) i)
+    (done-value part (p .part .ensures) (done .if5 .left) i))
+
+pub read-spec : {M : Type 1} → statement M
+read-spec =
+    tie.close
+    (tie.spec
+    (λ c κs. search needs)
+    (λ c κs. search needs)
+    returns
+    (λ c κs. search needs)
+    (λ c κs. search needs)
+    returns-2
+    (λ c κs. search needs)
+    (λ c κs. search needs)
+    returns-3
+    (λ c κs. search needs)
+    (λ c κs. search needs)
+    returns-4
+    (λ c κs. search needs)
+    (λ c κs. search needs)
+    returns-5
+    returns-6)

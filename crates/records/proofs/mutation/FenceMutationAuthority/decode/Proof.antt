@@ -1,0 +1,15 @@
+-- `decode`: the length first, then the fields. Assumes nothing.
+use Rattle.octets.proofs.CodecLaws.{decode-length, decode-read}
+use Rattle.records.specs.Mutation.{mutationCodec}
+use borrow.Author.Needs.{needs}
+use Rattle.records.proofs.mutation.FenceMutationAuthority.decode.Statement.{statement}
+use Rattle.records.proofs.mutation.FenceMutationAuthority.decode.Tie as tie
+
+returns : tie.Need-returns
+returns c = decode-length mutationCodec (c .before .if1 .taken) (c .refused .ensures)
+
+returns-2 : tie.Need-returns-2
+returns-2 c = decode-read mutationCodec (c .before .if1 .left) (c .read .ensures)
+
+pub decode-spec : {M : Type 1} → statement M
+decode-spec = tie.close (tie.spec (λ c κs. search needs) returns (λ c κs. search needs) returns-2)

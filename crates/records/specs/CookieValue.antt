@@ -1,0 +1,52 @@
+-- Document 01, 'Record layouts': "Cookie value, 40: four zeros, control, cookie (not 0), then token, deadline, epoch as in Entry."
+-- Assumes nothing.
+use Prim.Native.Nat.{ℕ}
+use mathlib.Core.Bool.{Bool, not, _&&_}
+use mathlib.Core.List.{List, [], _∷_}
+use lib.ListN.{getD}
+use lib.Dec.{eqb}
+use Rattle.octets.specs.Layout.{little}
+use Rattle.octets.specs.Codec.{Codec, sound}
+use Rattle.records.specs.declared.entry.FenceEntryState.{FenceEntryState}
+use Rattle.records.specs.declared.entry.FenceEntryState.the-variants.{InitialClosed}
+use Rattle.records.specs.declared.entry.FenceEntry.{FenceEntry}
+use Rattle.records.specs.declared.key.FenceCookieKey.{FenceCookieKey}
+use Rattle.records.specs.declared.cookie_value.FenceCookieValue.{FenceCookieValue}
+use Rattle.records.specs.Key.{key, keyCodec}
+use Rattle.records.specs.Entry.{controlOf, stateFrom, stateRule, entry, entryCodec}
+
+-- of zeros, control, cookie, token, deadline, epoch
+unfoldable pub cookieValueRule : ℕ → ℕ → ℕ → ℕ → ℕ → ℕ → Bool
+cookieValueRule z k c t d e = eqb z 0 && (not (eqb c 0) && stateRule k t d e)
+
+abbrev pub cookieValue : FenceEntryState → ℕ → ℕ → ℕ → ℕ → FenceCookieValue
+cookieValue st c t d e = record {
+  state = st;
+  «socket_cookie» = record { 0 = c };
+  «durable_fence_token» = record { 0 = t };
+  «deadline_boot_ns» = record { 0 = d };
+  «control_epoch» = record { 0 = e };
+}
+
+abbrev pub cookieValueCodec : Codec FenceCookieValue
+cookieValueCodec = record {
+  layout = little 4 ∷ little 4 ∷ little 8 ∷ little 8 ∷ little 8 ∷ little 8 ∷ [];
+  ok = λ vs. cookieValueRule (getD vs 0 0) (getD vs 1 0) (getD vs 2 0) (getD vs 3 0) (getD vs 4 0) (getD vs 5 0);
+  of = λ vs. cookieValue (stateFrom (getD vs 1 0)) (getD vs 2 0) (getD vs 3 0) (getD vs 4 0) (getD vs 5 0);
+  fields = λ v. 0 ∷ controlOf (v .state) ∷ v .«socket_cookie» .0 ∷ v .«durable_fence_token» .0 ∷ v .«deadline_boot_ns» .0 ∷ v .«control_epoch» .0 ∷ [];
+  blank = cookieValue InitialClosed 0 0 0 0;
+}
+
+-- the key and the entry of a value: each with the token
+abbrev pub keyOf : FenceCookieValue → FenceCookieKey
+keyOf v = key (v .«socket_cookie» .0) (v .«durable_fence_token» .0)
+
+abbrev pub entryOf : FenceCookieValue → FenceEntry
+entryOf v = entry (v .state) (v .«durable_fence_token» .0) (v .«deadline_boot_ns» .0) (v .«control_epoch» .0)
+
+-- what the constructor asks of a key and an entry: each sound, and one token in both; and the numbers that they give
+unfoldable pub agreeing : FenceCookieKey → FenceEntry → Bool
+agreeing k e = sound keyCodec k && (sound entryCodec e && eqb (k .«durable_fence_token» .0) (e .«durable_fence_token» .0))
+
+abbrev pub pairFields : FenceCookieKey → FenceEntry → List ℕ
+pairFields k e = 0 ∷ controlOf (e .state) ∷ k .«socket_cookie» .0 ∷ k .«durable_fence_token» .0 ∷ e .«deadline_boot_ns» .0 ∷ e .«control_epoch» .0 ∷ []

@@ -1,0 +1,194 @@
+// A cookie value, 40 bytes: the key of a registered socket and the state of its entry, the token they share held once.
+use crate::entry::FenceEntry;
+use crate::entry::FenceEntryState;
+use crate::key::FenceCookieKey;
+use units::BootNs;
+use units::ControlEpoch;
+use units::DurableFenceToken;
+use units::SocketCookie;
+ghost use mathlib.Core.Path.{_≡_};
+ghost use mathlib.Core.List.{[], _∷_};
+ghost use Prim.Native.Nat.{_<_};
+ghost use Rattle.octets.specs.Layout.{fieldsAt, puts};
+ghost use Rattle.octets.specs.Codec.{asking, Built, Decoded, Encoded, sound};
+ghost use Rattle.records.specs.CookieValue.{cookieValueRule, cookieValueCodec, keyOf, entryOf, agreeing, pairFields};
+
+pub struct FenceCookieValue {
+    pub state: FenceEntryState,
+    pub socket_cookie: SocketCookie,
+    pub durable_fence_token: DurableFenceToken,
+    pub deadline_boot_ns: BootNs,
+    pub control_epoch: ControlEpoch,
+}
+
+pub struct CookieValueAnswer {
+    pub number: u32,
+    pub value: FenceCookieValue,
+}
+
+fn rule(zeros: u32, control: u32, cookie: u64, token: u64, deadline: u64, epoch: u64) -> bool
+    ensures { λ r. ⌜ r ≡ cookieValueRule zeros control cookie token deadline epoch ⌝ }
+{
+    zeros == 0 && (cookie != 0 && crate::entry::state_rule(control, token, deadline, epoch))
+}
+
+fn refused(number: u32) -> CookieValueAnswer
+    ensures { λ r. ⌜ (r .number ≡ number) × (r .value ≡ cookieValueCodec .blank) ⌝ }
+{
+    CookieValueAnswer {
+        number,
+        value: FenceCookieValue {
+            state: FenceEntryState::InitialClosed,
+            socket_cookie: SocketCookie(0),
+            durable_fence_token: DurableFenceToken(0),
+            deadline_boot_ns: BootNs(0),
+            control_epoch: ControlEpoch(0),
+        },
+    }
+}
+
+// What the six numbers of the layout give.
+fn from_fields(
+    zeros: u32,
+    control: u32,
+    cookie: u64,
+    token: u64,
+    deadline: u64,
+    epoch: u64,
+) -> CookieValueAnswer
+    ensures { λ r. ⌜ Built cookieValueCodec (zeros ∷ control ∷ cookie ∷ token ∷ deadline ∷ epoch ∷ []) (r .number) (r .value) ⌝ }
+{
+    if rule(zeros, control, cookie, token, deadline, epoch) {
+        CookieValueAnswer {
+            number: 0,
+            value: FenceCookieValue {
+                state: FenceEntryState::from_control(control),
+                socket_cookie: SocketCookie(cookie),
+                durable_fence_token: DurableFenceToken(token),
+                deadline_boot_ns: BootNs(deadline),
+                control_epoch: ControlEpoch(epoch),
+            },
+        }
+    } else {
+        refused(2)
+    }
+}
+
+// Whether a key and an entry are sound and of one token.
+fn agree(key: FenceCookieKey, entry: FenceEntry) -> bool
+    ensures { λ r. ⌜ r ≡ agreeing key entry ⌝ }
+{
+    let own = key.durable_fence_token;
+    let token = entry.durable_fence_token;
+    key.is_sound() && (entry.is_sound() && own.0 == token.0)
+}
+
+impl FenceCookieValue {
+    pub const LEN: usize = 40;
+
+    // A key and an entry of the same token.
+    pub fn new(key: FenceCookieKey, entry: FenceEntry) -> CookieValueAnswer
+        ensures { λ r. ⌜ Built (asking (agreeing key entry) cookieValueCodec) (pairFields key entry) (r .number) (r .value) ⌝ }
+    {
+        if !agree(key, entry) {
+            return refused(2);
+        }
+        let state = entry.state;
+        let cookie = key.socket_cookie;
+        let token = key.durable_fence_token;
+        let deadline = entry.deadline_boot_ns;
+        let epoch = entry.control_epoch;
+        from_fields(0, state.control(), cookie.0, token.0, deadline.0, epoch.0)
+    }
+
+    pub fn key(self) -> FenceCookieKey
+        ensures { λ r. ⌜ r ≡ keyOf self ⌝ }
+    {
+        let socket_cookie = self.socket_cookie;
+        let durable_fence_token = self.durable_fence_token;
+        FenceCookieKey {
+            socket_cookie,
+            durable_fence_token,
+        }
+    }
+
+    pub fn entry(self) -> FenceEntry
+        ensures { λ r. ⌜ r ≡ entryOf self ⌝ }
+    {
+        let state = self.state;
+        let durable_fence_token = self.durable_fence_token;
+        let deadline_boot_ns = self.deadline_boot_ns;
+        let control_epoch = self.control_epoch;
+        FenceEntry {
+            state,
+            durable_fence_token,
+            deadline_boot_ns,
+            control_epoch,
+        }
+    }
+
+    pub fn is_sound(self) -> bool
+        ensures { λ r. ⌜ r ≡ sound cookieValueCodec self ⌝ }
+    {
+        let state = self.state;
+        let cookie = self.socket_cookie;
+        let token = self.durable_fence_token;
+        let deadline = self.deadline_boot_ns;
+        let epoch = self.control_epoch;
+        rule(0, state.control(), cookie.0, token.0, deadline.0, epoch.0)
+    }
+
+    // The record whose fields stand at a place.
+    pub(crate) fn read(s: &[u8], at: usize) -> CookieValueAnswer
+        requires { ⌜ at < 128 ⌝ }
+        ensures { λ r. ⌜ Built cookieValueCodec (fieldsAt (cookieValueCodec .layout) (now (s .entry)) at) (r .number) (r .value) ⌝ }
+    {
+        let zeros = octets::get_u32_le(s, at);
+        let control = octets::get_u32_le(s, at + 4);
+        let cookie = octets::get_u64_le(s, at + 8);
+        let token = octets::get_u64_le(s, at + 16);
+        let deadline = octets::get_u64_le(s, at + 24);
+        let epoch = octets::get_u64_le(s, at + 32);
+        from_fields(zeros, control, cookie, token, deadline, epoch)
+    }
+
+    pub fn decode(s: &[u8]) -> CookieValueAnswer
+        ensures { λ r. ⌜ Decoded cookieValueCodec (now (s .entry)) (r .number) (r .value) ⌝ }
+    {
+        if s.len() != FenceCookieValue::LEN {
+            return refused(1);
+        }
+        FenceCookieValue::read(s, 0)
+    }
+
+    // The record's fields, put at a place.
+    pub(crate) fn write(self, out: &mut [u8], at: usize)
+        requires { ⌜ at < 128 ⌝ }
+        ensures { λ r. ⌜ now (out .exit) ≡ puts (cookieValueCodec .layout) (cookieValueCodec .fields self) (now (out .entry)) at ⌝ }
+    {
+        let state = self.state;
+        let cookie = self.socket_cookie;
+        let token = self.durable_fence_token;
+        let deadline = self.deadline_boot_ns;
+        let epoch = self.control_epoch;
+        octets::put_u32_le(out, at, 0);
+        octets::put_u32_le(out, at + 4, state.control());
+        octets::put_u64_le(out, at + 8, cookie.0);
+        octets::put_u64_le(out, at + 16, token.0);
+        octets::put_u64_le(out, at + 24, deadline.0);
+        octets::put_u64_le(out, at + 32, epoch.0);
+    }
+
+    pub fn encode(self, out: &mut [u8]) -> u32
+        ensures { λ r. ⌜ Encoded cookieValueCodec self (now (out .entry)) r (now (out .exit)) ⌝ }
+    {
+        if !self.is_sound() {
+            return 3;
+        }
+        if out.len() < FenceCookieValue::LEN {
+            return 4;
+        }
+        self.write(out, 0);
+        0
+    }
+}

@@ -1,0 +1,221 @@
+// The current record, 24 bytes: the durable token in force, and the socket cookie registered under it.
+use units::DurableFenceToken;
+use units::SocketCookie;
+ghost use mathlib.Core.Path.{_≡_};
+ghost use mathlib.Core.Bool.{not};
+ghost use mathlib.Core.List.{[], _∷_};
+ghost use Prim.Native.Nat.{_<_};
+ghost use lib.Dec.{eqb};
+ghost use Rattle.octets.specs.Layout.{fieldsAt, puts};
+ghost use Rattle.octets.specs.Codec.{asking, Built, Decoded, Encoded, sound};
+ghost use Rattle.records.specs.Current.{currentRule, currentControl, currentCodec, lifecycleOpen, retirementClosed};
+
+pub struct CurrentFenceToken {
+    pub durable_fence_token: DurableFenceToken,
+    pub registered_socket_cookie: SocketCookie,
+    pub retirement_closed: bool,
+}
+
+pub struct CurrentAnswer {
+    pub number: u32,
+    pub value: CurrentFenceToken,
+}
+
+fn rule(zeros: u32, control: u32, token: u64, cookie: u64) -> bool
+    ensures { λ r. ⌜ r ≡ currentRule zeros control token cookie ⌝ }
+{
+    if zeros != 0 {
+        return false;
+    }
+    match control {
+        0 => token == 0 && cookie == 0,
+        0x4f45_0201 => token % 2 != 0,
+        0x4f45_0202 => token % 2 == 0 && (token != 0 && cookie == 0),
+        _ => false,
+    }
+}
+
+fn refused(number: u32) -> CurrentAnswer
+    ensures { λ r. ⌜ (r .number ≡ number) × (r .value ≡ currentCodec .blank) ⌝ }
+{
+    CurrentAnswer {
+        number,
+        value: CurrentFenceToken::initial(),
+    }
+}
+
+// What the four numbers of the layout give.
+fn from_fields(zeros: u32, control: u32, token: u64, cookie: u64) -> CurrentAnswer
+    ensures { λ r. ⌜ Built currentCodec (zeros ∷ control ∷ token ∷ cookie ∷ []) (r .number) (r .value) ⌝ }
+{
+    if rule(zeros, control, token, cookie) {
+        CurrentAnswer {
+            number: 0,
+            value: CurrentFenceToken {
+                durable_fence_token: DurableFenceToken(token),
+                registered_socket_cookie: SocketCookie(cookie),
+                retirement_closed: control == CurrentFenceToken::RETIREMENT_CLOSED_CONTROL,
+            },
+        }
+    } else {
+        refused(2)
+    }
+}
+
+impl CurrentFenceToken {
+    pub const LEN: usize = 24;
+
+    pub const LIFECYCLE_OPEN_CONTROL: u32 = 0x4f45_0201;
+
+    pub const RETIREMENT_CLOSED_CONTROL: u32 = 0x4f45_0202;
+
+    // Before the first token is published.
+    pub fn initial() -> Self
+        ensures { λ r. ⌜ r ≡ currentCodec .blank ⌝ }
+    {
+        Self {
+            durable_fence_token: DurableFenceToken(0),
+            registered_socket_cookie: SocketCookie(0),
+            retirement_closed: false,
+        }
+    }
+
+    pub fn lifecycle_open(durable_fence_token: DurableFenceToken) -> CurrentAnswer
+        ensures { λ r. ⌜ Built currentCodec (0 ∷ 0x4f45_0201 ∷ «durable_fence_token» .0 ∷ 0 ∷ []) (r .number) (r .value) ⌝ }
+    {
+        from_fields(
+            0,
+            CurrentFenceToken::LIFECYCLE_OPEN_CONTROL,
+            durable_fence_token.0,
+            0,
+        )
+    }
+
+    pub fn retirement_closed(durable_fence_token: DurableFenceToken) -> CurrentAnswer
+        ensures { λ r. ⌜ Built currentCodec (0 ∷ 0x4f45_0202 ∷ «durable_fence_token» .0 ∷ 0 ∷ []) (r .number) (r .value) ⌝ }
+    {
+        from_fields(
+            0,
+            CurrentFenceToken::RETIREMENT_CLOSED_CONTROL,
+            durable_fence_token.0,
+            0,
+        )
+    }
+
+    // A registered cookie is not 0.
+    pub fn registered(
+        durable_fence_token: DurableFenceToken,
+        registered_socket_cookie: SocketCookie,
+    ) -> CurrentAnswer
+        ensures { λ r. ⌜ Built (asking (not (eqb («registered_socket_cookie» .0) 0)) currentCodec)
+            (0 ∷ 0x4f45_0201 ∷ «durable_fence_token» .0 ∷ «registered_socket_cookie» .0 ∷ []) (r .number) (r .value) ⌝ }
+    {
+        let cookie = registered_socket_cookie.0;
+        if cookie == 0 {
+            return refused(2);
+        }
+        from_fields(
+            0,
+            CurrentFenceToken::LIFECYCLE_OPEN_CONTROL,
+            durable_fence_token.0,
+            cookie,
+        )
+    }
+
+    pub fn durable_fence_token(self) -> DurableFenceToken
+        ensures { λ r. ⌜ r ≡ self .«durable_fence_token» ⌝ }
+    {
+        self.durable_fence_token
+    }
+
+    // The cookie claimed under this token, or 0 before a registration.
+    pub fn registered_socket_cookie(self) -> SocketCookie
+        ensures { λ r. ⌜ r ≡ self .«registered_socket_cookie» ⌝ }
+    {
+        self.registered_socket_cookie
+    }
+
+    // Whether the token can own one socket registration.
+    pub fn is_lifecycle_open(self) -> bool
+        ensures { λ r. ⌜ r ≡ lifecycleOpen self ⌝ }
+    {
+        let token = self.durable_fence_token;
+        token.0 != 0 && !self.retirement_closed
+    }
+
+    // Whether the token closes registration for good.
+    pub fn is_retirement_closed(self) -> bool
+        ensures { λ r. ⌜ r ≡ retirementClosed self ⌝ }
+    {
+        let token = self.durable_fence_token;
+        token.0 != 0 && self.retirement_closed
+    }
+
+    fn control(self) -> u32
+        ensures { λ r. ⌜ r ≡ currentControl self ⌝ }
+    {
+        let token = self.durable_fence_token;
+        if self.retirement_closed {
+            return CurrentFenceToken::RETIREMENT_CLOSED_CONTROL;
+        }
+        if token.0 == 0 {
+            return 0;
+        }
+        CurrentFenceToken::LIFECYCLE_OPEN_CONTROL
+    }
+
+    pub fn is_sound(self) -> bool
+        ensures { λ r. ⌜ r ≡ sound currentCodec self ⌝ }
+    {
+        let token = self.durable_fence_token;
+        let cookie = self.registered_socket_cookie;
+        rule(0, self.control(), token.0, cookie.0)
+    }
+
+    // The record whose fields stand at a place.
+    pub(crate) fn read(s: &[u8], at: usize) -> CurrentAnswer
+        requires { ⌜ at < 128 ⌝ }
+        ensures { λ r. ⌜ Built currentCodec (fieldsAt (currentCodec .layout) (now (s .entry)) at) (r .number) (r .value) ⌝ }
+    {
+        let zeros = octets::get_u32_le(s, at);
+        let control = octets::get_u32_le(s, at + 4);
+        let token = octets::get_u64_le(s, at + 8);
+        let cookie = octets::get_u64_le(s, at + 16);
+        from_fields(zeros, control, token, cookie)
+    }
+
+    pub fn decode(s: &[u8]) -> CurrentAnswer
+        ensures { λ r. ⌜ Decoded currentCodec (now (s .entry)) (r .number) (r .value) ⌝ }
+    {
+        if s.len() != CurrentFenceToken::LEN {
+            return refused(1);
+        }
+        CurrentFenceToken::read(s, 0)
+    }
+
+    // The record's fields, put at a place.
+    pub(crate) fn write(self, out: &mut [u8], at: usize)
+        requires { ⌜ at < 128 ⌝ }
+        ensures { λ r. ⌜ now (out .exit) ≡ puts (currentCodec .layout) (currentCodec .fields self) (now (out .entry)) at ⌝ }
+    {
+        let token = self.durable_fence_token;
+        let cookie = self.registered_socket_cookie;
+        octets::put_u32_le(out, at, 0);
+        octets::put_u32_le(out, at + 4, self.control());
+        octets::put_u64_le(out, at + 8, token.0);
+        octets::put_u64_le(out, at + 16, cookie.0);
+    }
+
+    pub fn encode(self, out: &mut [u8]) -> u32
+        ensures { λ r. ⌜ Encoded currentCodec self (now (out .entry)) r (now (out .exit)) ⌝ }
+    {
+        if !self.is_sound() {
+            return 3;
+        }
+        if out.len() < CurrentFenceToken::LEN {
+            return 4;
+        }
+        self.write(out, 0);
+        0
+    }
+}

@@ -1,0 +1,331 @@
+// An inspection, 128 bytes: the current record, the mutation authority and perhaps a cookie value, as they stood at one moment.
+use crate::cookie_value::FenceCookieValue;
+use crate::current::CurrentFenceToken;
+use crate::mutation::FenceMutationAuthority;
+ghost use mathlib.Core.Path.{_≡_};
+ghost use mathlib.Core.List.{[], _∷_};
+ghost use Rattle.octets.specs.Octets.{octetsAt, le, be, allZero};
+ghost use Rattle.octets.specs.Layout.{fieldsAt, puts, Fit};
+ghost use Rattle.octets.specs.Codec.{Built, Decoded, Encoded, sound};
+ghost use Rattle.records.specs.CookieValue.{cookieValueCodec};
+ghost use Rattle.records.specs.Inspection.{inspectionMark, headRule, presentFlag, partFields, partNumbers, partCodec, inspection, headLayout, tailLayout, zeroTail, inspectionCodec};
+
+// The entry that was asked for, where there was one.
+pub enum InspectedEntry {
+    Absent,
+    Present(FenceCookieValue),
+}
+
+pub struct FenceInspection {
+    pub current: CurrentFenceToken,
+    pub mutation: FenceMutationAuthority,
+    pub entry: InspectedEntry,
+}
+
+pub struct InspectionAnswer {
+    pub number: u32,
+    pub value: FenceInspection,
+}
+
+// What the bytes of the inner entry give.
+struct PartAnswer {
+    number: u32,
+    value: InspectedEntry,
+}
+
+fn refused(number: u32) -> InspectionAnswer
+    ensures { λ r. ⌜ (r .number ≡ number) × (r .value ≡ inspectionCodec .blank) ⌝ }
+{
+    InspectionAnswer {
+        number,
+        value: FenceInspection {
+            current: CurrentFenceToken::initial(),
+            mutation: FenceMutationAuthority::initial(),
+            entry: InspectedEntry::Absent,
+        },
+    }
+}
+
+// ---- reading
+
+fn head_is_right(s: &[u8]) -> bool
+    ensures { λ r. ⌜ r ≡ headRule (be (octetsAt (now (s .entry)) 0 4)) (le (octetsAt (now (s .entry)) 4 2)) (le (octetsAt (now (s .entry)) 7 1)) ⌝ }
+{
+    let mark = octets::get_u32_be(s, 0);
+    let version = octets::get_u16_le(s, 4);
+    let pad = octets::get_u8(s, 7);
+    mark == FenceInspection::MARK && (version == FenceInspection::VERSION && pad == 0)
+}
+
+fn four_zeros(a: u64, b: u64, c: u64, d: u64) -> bool
+    ensures { λ r. ⌜ r ≡ allZero (a ∷ b ∷ c ∷ d ∷ []) ⌝ }
+{
+    if a != 0 {
+        return false;
+    }
+    if b != 0 {
+        return false;
+    }
+    if c != 0 {
+        return false;
+    }
+    if d != 0 {
+        return false;
+    }
+    true
+}
+
+fn tail_is_zero(s: &[u8]) -> bool
+    ensures { λ r. ⌜ r ≡ allZero (fieldsAt tailLayout (now (s .entry)) 88) ⌝ }
+{
+    let a = octets::get_u64_le(s, 88);
+    let b = octets::get_u64_le(s, 96);
+    let c = octets::get_u64_le(s, 104);
+    let d = octets::get_u64_le(s, 112);
+    let e = octets::get_u64_le(s, 120);
+    a == 0 && four_zeros(b, c, d, e)
+}
+
+fn part_is_zero(s: &[u8]) -> bool
+    ensures { λ r. ⌜ r ≡ allZero (fieldsAt (cookieValueCodec .layout) (now (s .entry)) 48) ⌝ }
+{
+    let zeros = octets::get_u32_le(s, 48);
+    let control = octets::get_u32_le(s, 52);
+    let a = octets::get_u64_le(s, 56);
+    let b = octets::get_u64_le(s, 64);
+    let c = octets::get_u64_le(s, 72);
+    let d = octets::get_u64_le(s, 80);
+    zeros == 0 && (control == 0 && four_zeros(a, b, c, d))
+}
+
+fn absent(number: u32) -> PartAnswer
+    ensures { λ r. ⌜ (r .number ≡ number) × (r .value ≡ InspectedEntry.Absent) ⌝ }
+{
+    PartAnswer {
+        number,
+        value: InspectedEntry::Absent,
+    }
+}
+
+fn present(s: &[u8]) -> PartAnswer
+    ensures { λ r. ⌜ Built (partCodec 1) (fieldsAt (cookieValueCodec .layout) (now (s .entry)) 48) (r .number) (r .value) ⌝ }
+{
+    let read = FenceCookieValue::read(s, 48);
+    if read.number != 0 {
+        return absent(2);
+    }
+    let value = read.value;
+    PartAnswer {
+        number: 0,
+        value: InspectedEntry::Present(value),
+    }
+}
+
+// The inner entry under its flag.
+fn part(s: &[u8]) -> PartAnswer
+    ensures { λ r. ⌜ Built (partCodec (le (octetsAt (now (s .entry)) 6 1))) (fieldsAt (cookieValueCodec .layout) (now (s .entry)) 48) (r .number) (r .value) ⌝ }
+{
+    let flag = octets::get_u8(s, 6);
+    match flag {
+        0 => {
+            if part_is_zero(s) {
+                absent(0)
+            } else {
+                absent(2)
+            }
+        }
+        1 => present(s),
+        _ => absent(2),
+    }
+}
+
+// The record whose fields stand at the start.
+fn read(s: &[u8]) -> InspectionAnswer
+    ensures { λ r. ⌜ Built inspectionCodec (fieldsAt (inspectionCodec .layout) (now (s .entry)) 0) (r .number) (r .value) ⌝ }
+{
+    if !head_is_right(s) {
+        return refused(2);
+    }
+    if !tail_is_zero(s) {
+        return refused(2);
+    }
+    let current = CurrentFenceToken::read(s, 8);
+    if current.number != 0 {
+        return refused(2);
+    }
+    let mutation = FenceMutationAuthority::read(s, 32);
+    if mutation.number != 0 {
+        return refused(2);
+    }
+    let entry = part(s);
+    if entry.number != 0 {
+        return refused(2);
+    }
+    let now = current.value;
+    let authority = mutation.value;
+    let inner = entry.value;
+    InspectionAnswer {
+        number: 0,
+        value: FenceInspection {
+            current: now,
+            mutation: authority,
+            entry: inner,
+        },
+    }
+}
+
+// ---- writing
+
+fn write_head(out: &mut [u8], flag: u8)
+    ensures { λ r. ⌜ now (out .exit) ≡ puts headLayout (inspectionMark ∷ 5 ∷ flag ∷ 0 ∷ []) (now (out .entry)) 0 ⌝ }
+{
+    octets::put_u32_be(out, 0, FenceInspection::MARK);
+    octets::put_u16_le(out, 4, FenceInspection::VERSION);
+    octets::put_u8(out, 6, flag);
+    octets::put_u8(out, 7, 0);
+}
+
+fn write_absent(out: &mut [u8])
+    ensures { λ r. ⌜ now (out .exit) ≡ puts (cookieValueCodec .layout) (0 ∷ zeroTail) (now (out .entry)) 48 ⌝ }
+{
+    octets::put_u32_le(out, 48, 0);
+    octets::put_u32_le(out, 52, 0);
+    octets::put_u64_le(out, 56, 0);
+    octets::put_u64_le(out, 64, 0);
+    octets::put_u64_le(out, 72, 0);
+    octets::put_u64_le(out, 80, 0);
+}
+
+fn write_tail(out: &mut [u8])
+    ensures { λ r. ⌜ now (out .exit) ≡ puts tailLayout zeroTail (now (out .entry)) 88 ⌝ }
+{
+    octets::put_u64_le(out, 88, 0);
+    octets::put_u64_le(out, 96, 0);
+    octets::put_u64_le(out, 104, 0);
+    octets::put_u64_le(out, 112, 0);
+    octets::put_u64_le(out, 120, 0);
+}
+
+impl InspectedEntry {
+    // 1 where there is an entry.
+    pub fn flag(self) -> u8
+        ensures { λ r. ⌜ r ≡ presentFlag self ⌝ }
+    {
+        match self {
+            InspectedEntry::Absent => 0,
+            InspectedEntry::Present(_) => 1,
+        }
+    }
+
+    pub fn is_sound(self) -> bool
+        ensures { λ r. ⌜ r ≡ sound (partCodec (presentFlag self)) self ⌝ }
+    {
+        match self {
+            InspectedEntry::Absent => true,
+            InspectedEntry::Present(value) => value.is_sound(),
+        }
+    }
+
+    // Its fields in their place; and they fit there, since each number is one of its type.
+    fn write(self, out: &mut [u8])
+        ensures { λ r. ⌜ (now (out .exit) ≡ puts (cookieValueCodec .layout) (partFields self) (now (out .entry)) 48)
+            × Fit (cookieValueCodec .layout) (partFields self) ⌝ }
+    {
+        match self {
+            InspectedEntry::Absent => write_absent(out),
+            InspectedEntry::Present(value) => value.write(out, 48),
+        }
+    }
+}
+
+impl FenceInspection {
+    pub const LEN: usize = 128;
+
+    // "OEI1", first octet first.
+    pub const MARK: u32 = 0x4f45_4931;
+
+    pub const VERSION: u16 = 5;
+
+    pub fn new(
+        current: CurrentFenceToken,
+        mutation: FenceMutationAuthority,
+        entry: InspectedEntry,
+    ) -> InspectionAnswer
+        ensures { λ r. ⌜ Built inspectionCodec (inspectionCodec .fields (inspection current mutation entry)) (r .number) (r .value) ⌝ }
+    {
+        let value = FenceInspection {
+            current,
+            mutation,
+            entry,
+        };
+        if value.is_sound() {
+            InspectionAnswer { number: 0, value }
+        } else {
+            refused(2)
+        }
+    }
+
+    pub fn current(self) -> CurrentFenceToken
+        ensures { λ r. ⌜ r ≡ self .current ⌝ }
+    {
+        self.current
+    }
+
+    pub fn mutation(self) -> FenceMutationAuthority
+        ensures { λ r. ⌜ r ≡ self .mutation ⌝ }
+    {
+        self.mutation
+    }
+
+    pub fn entry(self) -> InspectedEntry
+        ensures { λ r. ⌜ partNumbers r ≡ partNumbers (self .entry) ⌝ }
+    {
+        self.entry
+    }
+
+    pub fn is_sound(self) -> bool
+        ensures { λ r. ⌜ r ≡ sound inspectionCodec self ⌝ }
+    {
+        let current = self.current;
+        let mutation = self.mutation;
+        let entry = self.entry;
+        current.is_sound() && (mutation.is_sound() && entry.is_sound())
+    }
+
+    pub fn decode(s: &[u8]) -> InspectionAnswer
+        ensures { λ r. ⌜ Decoded inspectionCodec (now (s .entry)) (r .number) (r .value) ⌝ }
+    {
+        if s.len() != FenceInspection::LEN {
+            return refused(1);
+        }
+        read(s)
+    }
+
+    // The record's fields, put at the start; and they fit, since each number is one of its type.
+    fn write(self, out: &mut [u8])
+        ensures { λ r. ⌜ (now (out .exit) ≡ puts (inspectionCodec .layout) (inspectionCodec .fields self) (now (out .entry)) 0)
+            × Fit (inspectionCodec .layout) (inspectionCodec .fields self) ⌝ }
+    {
+        let current = self.current;
+        let mutation = self.mutation;
+        let entry = self.entry;
+        write_head(out, entry.flag());
+        current.write(out, 8);
+        mutation.write(out, 32);
+        entry.write(out);
+        write_tail(out);
+    }
+
+    pub fn encode(self, out: &mut [u8]) -> u32
+        ensures { λ r. ⌜ Encoded inspectionCodec self (now (out .entry)) r (now (out .exit)) ⌝ }
+    {
+        if !self.is_sound() {
+            return 3;
+        }
+        if out.len() < FenceInspection::LEN {
+            return 4;
+        }
+        self.write(out);
+        0
+    }
+}

@@ -1,0 +1,110 @@
+// The key of a cookie value, 16 bytes: one registered socket's lifecycle.
+use units::DurableFenceToken;
+use units::SocketCookie;
+ghost use mathlib.Core.Path.{_≡_};
+ghost use mathlib.Core.List.{[], _∷_};
+ghost use Rattle.octets.specs.Layout.{puts};
+ghost use Rattle.octets.specs.Codec.{Built, Decoded, Encoded, sound};
+ghost use Rattle.records.specs.Key.{keyRule, keyCodec};
+
+pub struct FenceCookieKey {
+    pub socket_cookie: SocketCookie,
+    pub durable_fence_token: DurableFenceToken,
+}
+
+pub struct KeyAnswer {
+    pub number: u32,
+    pub value: FenceCookieKey,
+}
+
+fn rule(cookie: u64, token: u64) -> bool
+    ensures { λ r. ⌜ r ≡ keyRule cookie token ⌝ }
+{
+    cookie != 0 && token != 0
+}
+
+fn refused(number: u32) -> KeyAnswer
+    ensures { λ r. ⌜ (r .number ≡ number) × (r .value ≡ keyCodec .blank) ⌝ }
+{
+    KeyAnswer {
+        number,
+        value: FenceCookieKey {
+            socket_cookie: SocketCookie(0),
+            durable_fence_token: DurableFenceToken(0),
+        },
+    }
+}
+
+impl FenceCookieKey {
+    pub const LEN: usize = 16;
+
+    pub fn new(socket_cookie: SocketCookie, durable_fence_token: DurableFenceToken) -> KeyAnswer
+        ensures { λ r. ⌜ Built keyCodec («socket_cookie» .0 ∷ «durable_fence_token» .0 ∷ []) (r .number) (r .value) ⌝ }
+    {
+        if rule(socket_cookie.0, durable_fence_token.0) {
+            KeyAnswer {
+                number: 0,
+                value: FenceCookieKey {
+                    socket_cookie,
+                    durable_fence_token,
+                },
+            }
+        } else {
+            refused(2)
+        }
+    }
+
+    pub fn socket_cookie(self) -> SocketCookie
+        ensures { λ r. ⌜ r ≡ self .«socket_cookie» ⌝ }
+    {
+        self.socket_cookie
+    }
+
+    pub fn durable_fence_token(self) -> DurableFenceToken
+        ensures { λ r. ⌜ r ≡ self .«durable_fence_token» ⌝ }
+    {
+        self.durable_fence_token
+    }
+
+    pub fn is_sound(self) -> bool
+        ensures { λ r. ⌜ r ≡ sound keyCodec self ⌝ }
+    {
+        let cookie = self.socket_cookie;
+        let token = self.durable_fence_token;
+        rule(cookie.0, token.0)
+    }
+
+    pub fn decode(s: &[u8]) -> KeyAnswer
+        ensures { λ r. ⌜ Decoded keyCodec (now (s .entry)) (r .number) (r .value) ⌝ }
+    {
+        if s.len() != FenceCookieKey::LEN {
+            return refused(1);
+        }
+        let cookie = octets::get_u64_le(s, 0);
+        let token = octets::get_u64_le(s, 8);
+        FenceCookieKey::new(SocketCookie(cookie), DurableFenceToken(token))
+    }
+
+    // The record's fields, put at the start.
+    fn write(self, out: &mut [u8])
+        ensures { λ r. ⌜ now (out .exit) ≡ puts (keyCodec .layout) (keyCodec .fields self) (now (out .entry)) 0 ⌝ }
+    {
+        let cookie = self.socket_cookie;
+        let token = self.durable_fence_token;
+        octets::put_u64_le(out, 0, cookie.0);
+        octets::put_u64_le(out, 8, token.0);
+    }
+
+    pub fn encode(self, out: &mut [u8]) -> u32
+        ensures { λ r. ⌜ Encoded keyCodec self (now (out .entry)) r (now (out .exit)) ⌝ }
+    {
+        if !self.is_sound() {
+            return 3;
+        }
+        if out.len() < FenceCookieKey::LEN {
+            return 4;
+        }
+        self.write(out);
+        0
+    }
+}
