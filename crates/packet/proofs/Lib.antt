@@ -1,0 +1,2 @@
+-- The laws of `packet`. Assumes nothing.
+pub mod Laws
