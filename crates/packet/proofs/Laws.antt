@@ -101,7 +101,7 @@ and-assoc true b c = refl
 and-assoc false b c = refl
 
 -- and n + m octets where the first n are and the other m
-pub same-parts : (s t : List ℕ) (i j n m : ℕ) →
+same-parts : (s t : List ℕ) (i j n m : ℕ) →
     sameOctets (octetsAt s i (n + m)) (octetsAt t j (n + m)) ≡ (sameOctets (octetsAt s i n) (octetsAt t j n) && sameOctets (octetsAt s (i + n) m) (octetsAt t (j + n) m))
 unfolding octetsAt sameOctets
 same-parts s t i j zero m = rw (zero-add, add-zero, add-zero)
@@ -109,6 +109,12 @@ same-parts s t i j (suc n) m =
     let u : i + 1 + n ≡ i + suc n = omega arith in
     let v : j + 1 + n ≡ j + suc n = omega arith in
     rw (suc-add, same-parts s t (i + 1) (j + 1) n m, u, v) (and-assoc (eqb (getD s i 0) (getD t j 0)) _ _)
+
+-- so n + m octets are compared as two numbers
+pub same-halves : (s t : List ℕ) (i j n m : ℕ) → Bytes s → Bytes t →
+    sameOctets (octetsAt s i (n + m)) (octetsAt t j (n + m)) ≡
+    (eqb (le (octetsAt s i n)) (le (octetsAt t j n)) && eqb (le (octetsAt s (i + n) m)) (le (octetsAt t (j + n) m)))
+same-halves s t i j n m a b = rw (same-parts s t i j n m, same-numbers s t i j n a b, same-numbers s t (i + n) (j + n) m a b)
 
 -- ---- the walk, a step at a time
 

@@ -8,7 +8,8 @@ ghost use Prim.Native.Nat.{_+_, _*_, _≤_};
 ghost use mathlib.Core.Bool.{cond, _||_};
 ghost use lib.Dec.{ltb, eqb};
 ghost use Rattle.octets.specs.Octets.{octetsAt, sameOctets};
-ghost use Rattle.packet.specs.Rfc8200.{lengthByte};
+ghost use Rattle.packet.specs.Rfc791.{source as source4};
+ghost use Rattle.packet.specs.Rfc8200.{source as source6, lengthByte};
 ghost use Rattle.packet.specs.Answers.{dispositionNumber, answerOf, classNumber, outcomeOf, Walked};
 ghost use Rattle.packet.specs.Reading.{stop, sortOf, udpOf, passOf, countedOf, fragmentOf, stepOf, walkOf, ipv4Of, ipv6Of, known, classifyOf};
 
@@ -220,26 +221,24 @@ fn walk(
 
 // ---- the two families
 
-// Whether the four bytes of a from i on equal those of b from j on.
-fn same_4(a: &[u8], i: usize, b: &[u8], j: usize) -> bool
-    ensures { λ r. ⌜ r ≡ sameOctets (octetsAt (now (a .entry)) i 4) (octetsAt (now (b .entry)) j 4) ⌝ }
+// Whether an IPv4 packet's source, which begins at 12, is the address. It is compared where it stands, as one number.
+fn same_ipv4(packet: &[u8], address: &[u8]) -> bool
+    ensures { λ r. ⌜ r ≡ sameOctets (source4 (now (packet .entry))) (octetsAt (now (address .entry)) 0 4) ⌝ }
 {
-    octets::get_u32_le(a, i) == octets::get_u32_le(b, j)
+    octets::get_u32_le(packet, 12) == octets::get_u32_le(address, 0)
 }
 
-// The same of eight bytes.
-fn same_8(a: &[u8], i: usize, b: &[u8], j: usize) -> bool
-    ensures { λ r. ⌜ r ≡ sameOctets (octetsAt (now (a .entry)) i 8) (octetsAt (now (b .entry)) j 8) ⌝ }
-{
-    octets::get_u64_le(a, i) == octets::get_u64_le(b, j)
-}
-
-// Whether an IPv6 packet's source, which begins at 8, is the address. It is compared where it stands, by halves.
+// The same of an IPv6 packet's source, which begins at 8, as two numbers. Called from one place only, so that the compiler puts it
+// there, behind the test of the packet's length, and the readers' tests fold away.
 fn same_ipv6(packet: &[u8], address: &[u8]) -> bool
-    ensures { λ r. ⌜ r ≡ sameOctets (octetsAt (now (packet .entry)) 8 16) (octetsAt (now (address .entry)) 0 16) ⌝ }
+    ensures { λ r. ⌜ r ≡ sameOctets (source6 (now (packet .entry))) (octetsAt (now (address .entry)) 0 16) ⌝ }
 {
-    if same_8(packet, 8, address, 0) {
-        same_8(packet, 16, address, 8)
+    let first = octets::get_u64_le(packet, 8);
+    let second = octets::get_u64_le(packet, 16);
+    let wanted_first = octets::get_u64_le(address, 0);
+    let wanted_second = octets::get_u64_le(address, 8);
+    if first == wanted_first {
+        second == wanted_second
     } else {
         false
     }
@@ -257,7 +256,7 @@ fn ipv4(packet: &[u8], endpoint: ProtectedEndpoint) -> PacketReading
     if size < 20 {
         return stopped(PacketEndpointDisposition::Indeterminate);
     }
-    if !same_4(packet, 12, &address, 0) {
+    if !same_ipv4(packet, &address) {
         return stopped(PacketEndpointDisposition::Unrelated);
     }
     let total = octets::get_u16_be(packet, 2) as usize;

@@ -26,7 +26,7 @@ returns-3 c =
     let source = c .before in
     let size = source .before .before .before in
     let length = size .before .before in
-    simp (le-ltb _ _ (length .if1 .left), ← size .before .get-u8 .ensures, le-ltb _ _ (size .if2 .left), ← source .before .same-4 .ensures, source .if3 .taken) (c .stopped3 .ensures)
+    simp (le-ltb _ _ (length .if1 .left), ← size .before .get-u8 .ensures, le-ltb _ _ (size .if2 .left), ← source .before .same-ipv4 .ensures, source .if3 .taken) (c .stopped3 .ensures)
 
 returns-4 : tie.Need-returns-4
 unfolding ipv4Head
@@ -35,7 +35,7 @@ returns-4 c =
     let source = total .before .before in
     let size = source .before .before .before in
     let length = size .before .before in
-    simp (le-ltb _ _ (length .if1 .left), ← size .before .get-u8 .ensures, le-ltb _ _ (size .if2 .left), ← source .before .same-4 .ensures, source .if3 .left, ← total .before .get-u16-be .ensures, lt-ltb _ _ (total .if4 .taken)) (c .stopped4 .ensures)
+    simp (le-ltb _ _ (length .if1 .left), ← size .before .get-u8 .ensures, le-ltb _ _ (size .if2 .left), ← source .before .same-ipv4 .ensures, source .if3 .left, ← total .before .get-u16-be .ensures, lt-ltb _ _ (total .if4 .taken)) (c .stopped4 .ensures)
 
 returns-5 : tie.Need-returns-5
 unfolding ipv4Head
@@ -45,7 +45,7 @@ returns-5 c =
     let source = total .before .before in
     let size = source .before .before .before in
     let length = size .before .before in
-    simp (le-ltb _ _ (length .if1 .left), ← size .before .get-u8 .ensures, le-ltb _ _ (size .if2 .left), ← source .before .same-4 .ensures, source .if3 .left, ← total .before .get-u16-be .ensures, le-ltb _ _ (total .if4 .left), lt-ltb _ _ (room .if5 .taken)) (c .stopped5 .ensures)
+    simp (le-ltb _ _ (length .if1 .left), ← size .before .get-u8 .ensures, le-ltb _ _ (size .if2 .left), ← source .before .same-ipv4 .ensures, source .if3 .left, ← total .before .get-u16-be .ensures, le-ltb _ _ (total .if4 .left), lt-ltb _ _ (room .if5 .taken)) (c .stopped5 .ensures)
 
 returns-6 : tie.Need-returns-6
 unfolding ipv4Head
@@ -56,7 +56,7 @@ returns-6 c =
     let source = total .before .before in
     let size = source .before .before .before in
     let length = size .before .before in
-    simp (le-ltb _ _ (length .if1 .left), ← size .before .get-u8 .ensures, le-ltb _ _ (size .if2 .left), ← source .before .same-4 .ensures, source .if3 .left, ← total .before .get-u16-be .ensures, le-ltb _ _ (total .if4 .left), le-ltb _ _ (room .if5 .left), ← protocol .before .get-u82 .ensures, ne-eqb _ _ (protocol .if6 .taken)) (c .stopped6 .ensures)
+    simp (le-ltb _ _ (length .if1 .left), ← size .before .get-u8 .ensures, le-ltb _ _ (size .if2 .left), ← source .before .same-ipv4 .ensures, source .if3 .left, ← total .before .get-u16-be .ensures, le-ltb _ _ (total .if4 .left), le-ltb _ _ (room .if5 .left), ← protocol .before .get-u82 .ensures, ne-eqb _ _ (protocol .if6 .taken)) (c .stopped6 .ensures)
 
 returns-7 : tie.Need-returns-7
 unfolding ipv4Head
@@ -68,7 +68,7 @@ returns-7 c =
     let source = total .before .before in
     let size = source .before .before .before in
     let length = size .before .before in
-    simp (le-ltb _ _ (length .if1 .left), ← size .before .get-u8 .ensures, le-ltb _ _ (size .if2 .left), ← source .before .same-4 .ensures, source .if3 .left, ← total .before .get-u16-be .ensures, le-ltb _ _ (total .if4 .left), le-ltb _ _ (room .if5 .left), ← protocol .before .get-u82 .ensures, eq-eqb _ _ (protocol .if6 .left), ← fragment .before .get-u16-be2 .ensures, ne-eqb _ _ (fragment .if7 .taken)) (c .stopped7 .ensures)
+    simp (le-ltb _ _ (length .if1 .left), ← size .before .get-u8 .ensures, le-ltb _ _ (size .if2 .left), ← source .before .same-ipv4 .ensures, source .if3 .left, ← total .before .get-u16-be .ensures, le-ltb _ _ (total .if4 .left), le-ltb _ _ (room .if5 .left), ← protocol .before .get-u82 .ensures, eq-eqb _ _ (protocol .if6 .left), ← fragment .before .get-u16-be2 .ensures, ne-eqb _ _ (fragment .if7 .taken)) (c .stopped7 .ensures)
 
 returns-8 : tie.Need-returns-8
 unfolding ipv4Head
@@ -80,7 +80,7 @@ returns-8 c =
     let source = total .before .before in
     let size = source .before .before .before in
     let length = size .before .before in
-    simp (le-ltb _ _ (length .if1 .left), ← size .before .get-u8 .ensures, le-ltb _ _ (size .if2 .left), ← source .before .same-4 .ensures, source .if3 .left, ← total .before .get-u16-be .ensures, le-ltb _ _ (total .if4 .left), le-ltb _ _ (room .if5 .left), ← protocol .before .get-u82 .ensures, eq-eqb _ _ (protocol .if6 .left), ← fragment .before .get-u16-be2 .ensures, eq-eqb _ _ (fragment .if7 .left)) (c .stopped8 .ensures ∙ ap (stop 0) (c .before .udp .ensures))
+    simp (le-ltb _ _ (length .if1 .left), ← size .before .get-u8 .ensures, le-ltb _ _ (size .if2 .left), ← source .before .same-ipv4 .ensures, source .if3 .left, ← total .before .get-u16-be .ensures, le-ltb _ _ (total .if4 .left), le-ltb _ _ (room .if5 .left), ← protocol .before .get-u82 .ensures, eq-eqb _ _ (protocol .if6 .left), ← fragment .before .get-u16-be2 .ensures, eq-eqb _ _ (fragment .if7 .left)) (c .stopped8 .ensures ∙ ap (stop 0) (c .before .udp .ensures))
 
 pub ipv4-spec : {M : Type 1} → statement M
 ipv4-spec =
