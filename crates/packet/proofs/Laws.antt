@@ -118,7 +118,7 @@ same-halves s t i j n m a b = rw (same-parts s t i j n m, same-numbers s t i j n
 
 -- ---- the walk, a step at a time
 
-cond-all : {A : Type 0} (P : A → Type 0) (b : Bool) {x y : A} → P x → P y → P (cond b x y)
+pub cond-all : {A : Type 0} (P : A → Type 0) (b : Bool) {x y : A} → P x → P y → P (cond b x y)
 cond-all P true p q = p
 cond-all P false p q = q
 

@@ -18,7 +18,7 @@ unfoldable pub inside : ℕ → List ℕ → List ℕ
 inside n [] = []
 inside n (i ∷ l) = cond (ltb i n) (i ∷ inside n l) (inside n l)
 
-abbrev pub bytesAt : List ℕ → List ℕ → List ℕ
+unfoldable pub bytesAt : List ℕ → List ℕ → List ℕ
 bytesAt s l = map (λ i. getD s i 0) l
 
 -- at a header: the two port bytes if reached; of an extension header whose allowance and first room test hold, bytes 0 and 1,
