@@ -1,0 +1,168 @@
+-- Laws of the definitions, which the proofs of the functions cite: what the sorting gives for the groups of a `match`, room told by a
+-- subtraction, octets compared as numbers, and the walk a step at a time. Assumes nothing.
+use Prim.Native.Nat.{ℕ, zero, suc, _+_, _-_, _*_, _≤_, _<_}
+use mathlib.Core.Path.{_≡_, refl, sym, ap, _∙_}
+use mathlib.Core.Bool.{Bool, true, false, cond, not, _&&_, _||_}
+use mathlib.Core.Logic.{_⊎_, inl, inr, ⊎-elim}
+use mathlib.Core.List.{List}
+use native.Mathlib.Nat.{eq-or-lt-of-le, zero-add, add-zero, suc-add, mul-le-mul-right}
+use native.Mathlib.Numerals.{sub-one}
+use native.Mathlib.Omega.{arith}
+use lib.ListN.{getD}
+use lib.Dec.{ltb, eqb}
+use borrow.Author.Tests.{eq-eqb, ne-eqb, eqb-true, eqb-false, lt-ltb, le-ltb, ltb-true, ltb-false}
+use Rattle.octets.specs.Octets.{Bytes, octetsAt, le, sameOctets}
+use Rattle.packet.specs.Reading.{Answer, Outcome, settled, onward, follow, sortOf, byClass, countedOf, fragmentOf, stepOf, stop, passed, walkOf}
+
+-- ---- the sorting, as a `match` with its groups tells it
+
+pub sort-elsewhere : (x : ℕ) → (x ≡ 6) ⊎ (x ≡ 50) → 1 ≡ sortOf x
+unfolding sortOf
+sort-elsewhere x (inl e) = simp e
+sort-elsewhere x (inr e) = simp e
+
+pub sort-late : (x : ℕ) → 58 ≤ x → x < 60 → 1 ≡ sortOf x
+unfolding sortOf
+sort-late x a b =
+    ⊎-elim (λ e. let h : x ≡ 58 = sym e in simp h) (λ l. let h : x ≡ 59 = omega arith in simp h) (eq-or-lt-of-le a)
+
+pub sort-options : (x : ℕ) → (x ≡ 0) ⊎ ((x ≡ 43) ⊎ (x ≡ 60)) → 2 ≡ sortOf x
+unfolding sortOf
+sort-options x (inl e) = simp e
+sort-options x (inr (inl e)) = simp e
+sort-options x (inr (inr e)) = simp e
+
+-- none of the ten values
+pub sort-other : (x : ℕ) → ((((Unit {0} × (x ≡ 17 → ⊥)) × ((x ≡ 6) ⊎ (x ≡ 50) → ⊥)) × ((x ≡ 0) ⊎ ((x ≡ 43) ⊎ (x ≡ 60)) → ⊥)) × (x ≡ 51 → ⊥)) × (x ≡ 44 → ⊥) → (x ≡ 58 → ⊥) → (x ≡ 59 → ⊥) → 5 ≡ sortOf x
+unfolding sortOf
+sort-other x r a b =
+    simp (
+      ne-eqb x 17 (r .0 .0 .0 .0 .1),
+      ne-eqb x 6 (λ e. r .0 .0 .0 .1 (inl e)),
+      ne-eqb x 50 (λ e. r .0 .0 .0 .1 (inr e)),
+      ne-eqb x 58 a,
+      ne-eqb x 59 b,
+      ne-eqb x 0 (λ e. r .0 .0 .1 (inl e)),
+      ne-eqb x 43 (λ e. r .0 .0 .1 (inr (inl e))),
+      ne-eqb x 60 (λ e. r .0 .0 .1 (inr (inr e))),
+      ne-eqb x 51 (r .0 .1),
+      ne-eqb x 44 (r .1),
+    )
+
+-- ---- room
+
+-- room for l bytes from a on, told without a sum
+pub past-left : (a l e : ℕ) → a ≤ e → ltb (e - a) l ≡ ltb e (a + l)
+past-left a l e h = go (ltb (e - a) l) refl
+  where
+    go : (b : Bool) → ltb (e - a) l ≡ b → b ≡ ltb e (a + l)
+    go true q = sym (lt-ltb e (a + l) (omega (arith, ltb-true (e - a) l q)))
+    go false q = sym (le-ltb e (a + l) (omega (arith, ltb-false (e - a) l q)))
+
+-- where a header is entered there is room for its first bytes
+pub entered-room : (b : Bool) (e n : ℕ) → b || ltb e n ≡ false → n ≤ e
+entered-room true e n q = let z : _≡_ {A = ℕ} 0 1 = cc in omega arith
+entered-room false e n q = ltb-false e n q
+
+-- a header's length, in units of at most 8 bytes
+pub product-bound : (u n k : ℕ) → u ≤ 8 → n < 256 → k ≤ 2 → u * (n + k) < 4096
+product-bound u n k a b d = let h : u * (n + k) ≤ 8 * (n + k) = mul-le-mul-right (n + k) a in omega arith
+
+-- ---- cases
+
+pub either-way : {A : Type 0} (b : Bool) (x : A) → x ≡ cond b x x
+either-way true x = refl
+either-way false x = refl
+
+pub other-way : {A : Type 0} (b : Bool) (x y : A) → cond b x y ≡ cond (not b || false) y x
+other-way true x y = refl
+other-way false x y = refl
+
+-- ---- octets compared as numbers
+
+digit-same : (x y p q : ℕ) → x < 256 → y < 256 → (eqb x y && eqb p q) ≡ eqb (x + 256 * p) (y + 256 * q)
+digit-same x y p q a b = go (eqb x y) (eqb p q) refl refl
+  where
+    go : (t u : Bool) → eqb x y ≡ t → eqb p q ≡ u → (t && u) ≡ eqb (x + 256 * p) (y + 256 * q)
+    go true true e f = sym (eq-eqb (x + 256 * p) (y + 256 * q) (omega (arith, eqb-true x y e, eqb-true p q f)))
+    go true false e f = sym (ne-eqb (x + 256 * p) (y + 256 * q) (λ d. eqb-false p q f (omega arith)))
+    go false u e f = sym (ne-eqb (x + 256 * p) (y + 256 * q) (λ d. eqb-false x y e (omega arith)))
+
+-- octets are the same where their numbers are
+pub same-numbers : (s t : List ℕ) (i j n : ℕ) → Bytes s → Bytes t →
+    eqb (le (octetsAt s i n)) (le (octetsAt t j n)) ≡ sameOctets (octetsAt s i n) (octetsAt t j n)
+unfolding le octetsAt sameOctets
+same-numbers s t i j zero a b = refl
+same-numbers s t i j (suc n) a b =
+    sym (digit-same (getD s i 0) (getD t j 0) _ _ (a i) (b j)) ∙ ap (λ r. eqb (getD s i 0) (getD t j 0) && r) (same-numbers s t (i + 1) (j + 1) n a b)
+
+and-assoc : (a b c : Bool) → (a && (b && c)) ≡ ((a && b) && c)
+and-assoc true b c = refl
+and-assoc false b c = refl
+
+-- and n + m octets where the first n are and the other m
+same-parts : (s t : List ℕ) (i j n m : ℕ) →
+    sameOctets (octetsAt s i (n + m)) (octetsAt t j (n + m)) ≡ (sameOctets (octetsAt s i n) (octetsAt t j n) && sameOctets (octetsAt s (i + n) m) (octetsAt t (j + n) m))
+unfolding octetsAt sameOctets
+same-parts s t i j zero m = rw (zero-add, add-zero, add-zero)
+same-parts s t i j (suc n) m =
+    let u : i + 1 + n ≡ i + suc n = omega arith in
+    let v : j + 1 + n ≡ j + suc n = omega arith in
+    rw (suc-add, same-parts s t (i + 1) (j + 1) n m, u, v) (and-assoc (eqb (getD s i 0) (getD t j 0)) _ _)
+
+-- so n + m octets are compared as two numbers
+pub same-halves : (s t : List ℕ) (i j n m : ℕ) → Bytes s → Bytes t →
+    sameOctets (octetsAt s i (n + m)) (octetsAt t j (n + m)) ≡
+    (eqb (le (octetsAt s i n)) (le (octetsAt t j n)) && eqb (le (octetsAt s (i + n) m)) (le (octetsAt t (j + n) m)))
+same-halves s t i j n m a b = rw (same-parts s t i j n m, same-numbers s t i j n a b, same-numbers s t (i + n) (j + n) m a b)
+
+-- ---- the walk, a step at a time
+
+pub cond-all : {A : Type 0} (P : A → Type 0) (b : Bool) {x y : A} → P x → P y → P (cond b x y)
+cond-all P true p q = p
+cond-all P false p q = q
+
+byClass-all : {A : Type 0} (P : A → Type 0) (k : ℕ) {p u o w f x : A} → P p → P u → P o → P w → P f → P x → P (byClass k p u o w f x)
+byClass-all P k pp pu po pw pf px =
+    cond-all P (eqb k 0) pp (cond-all P (eqb k 1) pu (cond-all P (eqb k 2) po (cond-all P (eqb k 3) pw (cond-all P (eqb k 4) pf px))))
+
+abbrev Stops : Outcome → Type 0
+Stops o = (n c : ℕ) → o ≡ onward n c → ⊥
+
+settled-stops : {c d : ℕ} → Stops (settled c d)
+settled-stops n c q = let z : _≡_ {A = ℕ} 0 1 = cc in omega arith
+
+module _ (s : List ℕ) (port e : ℕ) where
+  -- with no allowance every step stops
+  none-stops : (n c : ℕ) → Stops (stepOf s port e 0 n c)
+  unfolding stepOf countedOf fragmentOf
+  none-stops n c = byClass-all Stops (sortOf n) settled-stops settled-stops settled-stops settled-stops settled-stops settled-stops
+
+  -- at most as many headers are passed as the allowance has
+  pub walk-count : (a n c : ℕ) → walkOf s port e a n c .headers ≤ a
+  unfolding walkOf
+  walk-count zero n c = go (stepOf s port e 0 n c)
+    where
+      go : (o : Outcome) → follow stop o (λ _ c′. stop c′ 2) .headers ≤ 0
+      go (settled c′ d) = omega arith
+      go (onward n′ c′) = omega arith
+  walk-count (suc a) n c = go (stepOf s port e (suc a) n c) (λ n′ c′. walk-count a n′ c′)
+    where
+      go : (o : Outcome) → ((n′ c′ : ℕ) → walkOf s port e a n′ c′ .headers ≤ a) → follow stop o (λ n′ c′. passed (walkOf s port e a n′ c′)) .headers ≤ suc a
+      go (settled c′ d) h = omega arith
+      go (onward n′ c′) h = omega (arith, h n′ c′)
+
+  pub walk-stops : (a n c c′ d : ℕ) → stepOf s port e a n c ≡ settled c′ d → walkOf s port e a n c ≡ stop c′ d
+  unfolding walkOf
+  walk-stops zero n c c′ d q = simp q
+  walk-stops (suc a) n c c′ d q = simp q
+
+  pub walk-on : (a n c n′ c′ : ℕ) → stepOf s port e a n c ≡ onward n′ c′ →
+      (0 < a) × (walkOf s port e a n c ≡ passed (walkOf s port e (a - 1) n′ c′))
+  unfolding walkOf
+  walk-on zero n c n′ c′ q = absurd (none-stops n c n′ c′ q)
+  walk-on (suc a) n c n′ c′ q = (omega arith, simp (q, sub-one))
+
+-- an answer from its parts
+pub answered : (r : Answer) (d h : ℕ) → d ≡ r .disposition → h ≡ 0 + r .headers → record { disposition = d; headers = h } ≡ r
+answered r d h p q = let q′ : h ≡ r .headers = omega arith in λ i. record { disposition = p i; headers = q′ i }

@@ -1,0 +1,42 @@
+-- `counted`: the definition's two tests, the second one in `pass`. A product of at most 8 and 257 fits. Assumes nothing.
+use Prim.Native.Nat.{_+_}
+use lib.Dec.{eqb}
+use mathlib.Core.Path.{sym, _∙_}
+use native.Mathlib.Omega.{arith}
+use Rattle.packet.specs.Reading.{countedOf}
+use Rattle.packet.proofs.Laws.{entered-room, product-bound}
+use borrow.Author.Needs.{needs}
+use Rattle.packet.proofs.counted.Statement.{statement}
+use Rattle.packet.proofs.counted.Tie as tie
+
+returns : tie.Need-returns
+unfolding countedOf
+returns c = simp (sym (c .before .barred .ensures) ∙ c .if1 .taken)
+
+add-get-u8 : tie.Need-add-get-u8
+add-get-u8 c =
+    let a = c .before .before .before .args in
+    omega (arith, entered-room (eqb (a .allowance) 0) (a .end) (a .at + 2) (sym (c .before .barred .ensures) ∙ c .if1 .left))
+
+mul-pass : tie.Need-mul-pass
+mul-pass c =
+    let start = c .before .before .before .before in
+    omega (arith, product-bound (start .args .unit) (c .get-u8 .result) (start .args .uncounted) (start .pre .0) (omega arith) (start .pre .1))
+
+returns-2 : tie.Need-returns-2
+unfolding countedOf
+returns-2 c = simp (sym (c .before .before .before .barred .ensures) ∙ c .before .before .if1 .left) (c .pass .ensures ∙ simp (c .before .get-u8 .ensures))
+
+pub counted-spec : {M : Type 1} → statement M
+counted-spec =
+    tie.close
+    (tie.spec
+    (λ c κs. search needs)
+    returns
+    add-get-u8
+    (λ c κs. search needs)
+    (λ c. search needs)
+    (λ c. search needs)
+    mul-pass
+    (λ c κs. search needs)
+    returns-2)

@@ -1,0 +1,38 @@
+-- The number and values of each case of the enums; 01 has none, so they are counted from 0 in the order of its text. Assumes nothing.
+use Prim.Native.Nat.{ℕ, _+_, _≤_}
+use mathlib.Core.Path.{_≡_}
+use Rattle.packet.specs.Reading.{Answer, Outcome, settled, onward}
+use Rattle.packet.specs.declared.PacketEndpointDisposition.{PacketEndpointDisposition}
+use Rattle.packet.specs.declared.PacketEndpointDisposition.the-variants.{Protected, Unrelated, Indeterminate}
+use Rattle.packet.specs.declared.PacketReading.{PacketReading}
+use Rattle.packet.specs.declared.HeaderClass.{HeaderClass}
+use Rattle.packet.specs.declared.HeaderClass.the-variants.{Udp, Elsewhere, Options, Authentication, Fragment, Other}
+use Rattle.packet.specs.declared.Step.{Step}
+use Rattle.packet.specs.declared.Step.the-variants.{Stop, Pass}
+
+abbrev pub dispositionNumber : PacketEndpointDisposition → ℕ
+dispositionNumber Protected = 0
+dispositionNumber Unrelated = 1
+dispositionNumber Indeterminate = 2
+
+abbrev pub answerOf : PacketReading → Answer
+answerOf r = record { disposition = dispositionNumber (r .disposition); headers = r .headers }
+
+abbrev pub classNumber : HeaderClass → ℕ
+classNumber Udp = 0
+classNumber Elsewhere = 1
+classNumber Options = 2
+classNumber Authentication = 3
+classNumber Fragment = 4
+classNumber Other = 5
+
+-- of a step at the place c
+abbrev pub outcomeOf : ℕ → Step → Outcome
+outcomeOf c (Stop d) = settled c (dispositionNumber d)
+outcomeOf c (Pass n c′) = onward n c′
+
+-- of a walk that answers the disposition's number d and adds the headers it passes to h, which are h′ then
+pub record Walked (r : Answer) (h d h′ : ℕ) : Type 0 where
+  pub disposition : d ≡ r .disposition
+  pub headers : h′ ≡ h + r .headers
+  pub bound : d ≤ 2

@@ -1,0 +1,10 @@
+-- RFC 768: the UDP header, 8 bytes, has the source port first; UDP is protocol 17. Assumes nothing.
+use Prim.Native.Nat.{ℕ}
+use mathlib.Core.List.{List}
+use Rattle.octets.specs.Octets.{octetsAt, be}
+
+abbrev pub udpLength : ℕ
+udpLength = 8
+
+abbrev pub sourcePort : List ℕ → ℕ → ℕ
+sourcePort s c = be (octetsAt s c 2)

@@ -1,0 +1,353 @@
+// The classifier of packets by their UDP source: whether a packet that leaves the host comes from the protected endpoint.
+//
+// A packet begins at its network header. Each test stands in the order of document 01, and each field is read where that order
+// comes to it, after the test of the packet's length: the readers' own tests then cost nothing.
+use endpoint::ProtectedEndpoint;
+ghost use mathlib.Core.Path.{_≡_};
+ghost use Prim.Native.Nat.{_+_, _*_, _≤_};
+ghost use mathlib.Core.Bool.{cond, _||_};
+ghost use lib.Dec.{ltb, eqb};
+ghost use Rattle.octets.specs.Octets.{octetsAt, sameOctets};
+ghost use Rattle.packet.specs.Rfc791.{source as source4};
+ghost use Rattle.packet.specs.Rfc8200.{source as source6, lengthByte};
+ghost use Rattle.packet.specs.Answers.{dispositionNumber, answerOf, classNumber, outcomeOf, Walked};
+ghost use Rattle.packet.specs.Reading.{stop, sortOf, udpOf, passOf, countedOf, fragmentOf, stepOf, walkOf, ipv4Of, ipv6Of, known, classifyOf};
+
+pub enum PacketEndpointDisposition {
+    // The packet is proven to use the protected UDP source.
+    Protected,
+    // The packet is understood well enough to prove that it does not.
+    Unrelated,
+    // A packet that is cut, malformed or too long a chain proves neither.
+    Indeterminate,
+}
+
+// What reading a packet gives: the disposition, and the number of IPv6 extension headers passed on the way.
+pub struct PacketReading {
+    pub disposition: PacketEndpointDisposition,
+    pub headers: u8,
+}
+
+// What a next-header value calls for: the port test, Unrelated, one of three length rules, or Indeterminate.
+enum HeaderClass {
+    Udp,
+    Elsewhere,
+    Options,
+    Authentication,
+    Fragment,
+    Other,
+}
+
+// What the header at a place comes to: reading stops there, or goes on to the next header's value and place.
+enum Step {
+    Stop(PacketEndpointDisposition),
+    Pass { next: u8, at: usize },
+}
+
+// At most so many extension headers are passed.
+const MAX_IPV6_EXTENSION_HEADERS: u8 = 4;
+
+// The answer before the walk, and of every IPv4 packet: no header is passed.
+fn stopped(disposition: PacketEndpointDisposition) -> PacketReading
+    ensures { λ r. ⌜ answerOf r ≡ stop 0 (dispositionNumber disposition) ⌝ }
+{
+    PacketReading {
+        disposition,
+        headers: 0,
+    }
+}
+
+// ---- room, and the UDP header
+
+// Whether `len` bytes from `at` on pass `end`.
+fn past(at: usize, len: usize, end: usize) -> bool
+    ensures { λ r. ⌜ r ≡ ltb end (at + len) ⌝ }
+{
+    if at <= end { end - at < len } else { true }
+}
+
+// The UDP header at `at`, in a packet that ends at `end`: the source port decides.
+fn udp(packet: &[u8], port: u16, end: usize, at: usize) -> PacketEndpointDisposition
+    ensures { λ r. ⌜ dispositionNumber r ≡ udpOf (now (packet .entry)) port end at ⌝ }
+{
+    if past(at, 8, end) {
+        return PacketEndpointDisposition::Indeterminate;
+    }
+    if octets::get_u16_be(packet, at) == port {
+        PacketEndpointDisposition::Protected
+    } else {
+        PacketEndpointDisposition::Unrelated
+    }
+}
+
+// ---- the IPv6 chain
+
+// The sorting of the next-header value.
+fn sort(next: u8) -> HeaderClass
+    ensures { λ r. ⌜ classNumber r ≡ sortOf next ⌝ }
+{
+    match next {
+        // UDP
+        17 => HeaderClass::Udp,
+        // TCP, ESP, ICMPv6, no next header
+        6 | 50 | 58 | 59 => HeaderClass::Elsewhere,
+        // hop-by-hop options, routing, destination options
+        0 | 43 | 60 => HeaderClass::Options,
+        51 => HeaderClass::Authentication,
+        44 => HeaderClass::Fragment,
+        // An unknown value may be an extension header of the future.
+        _ => HeaderClass::Other,
+    }
+}
+
+// Whether an extension header cannot be entered: there is no allowance, or its first `len` bytes pass `end`.
+fn barred(allowance: u8, at: usize, len: usize, end: usize) -> bool
+    ensures { λ r. ⌜ r ≡ (eqb allowance 0 || ltb end (at + len)) ⌝ }
+{
+    if allowance == 0 {
+        true
+    } else {
+        past(at, len, end)
+    }
+}
+
+// On past the header of `len` bytes at `at`, unless it passes `end`.
+fn pass(packet: &[u8], end: usize, at: usize, len: usize) -> Step
+    ensures { λ r. ⌜ outcomeOf at r ≡ passOf (now (packet .entry)) end at len ⌝ }
+{
+    if past(at, len, end) {
+        return Step::Stop(PacketEndpointDisposition::Indeterminate);
+    }
+    Step::Pass {
+        next: octets::get_u8(packet, at),
+        at: at + len,
+    }
+}
+
+// A header whose second byte counts units of `unit` bytes, less `uncounted` of them.
+fn counted(
+    packet: &[u8],
+    end: usize,
+    allowance: u8,
+    at: usize,
+    unit: usize,
+    uncounted: usize,
+) -> Step
+    requires { ⌜ (unit ≤ 8) × (uncounted ≤ 2) ⌝ }
+    ensures { λ r. ⌜ outcomeOf at r ≡ countedOf (now (packet .entry)) end allowance at (unit * (lengthByte (now (packet .entry)) at + uncounted)) ⌝ }
+{
+    if barred(allowance, at, 2, end) {
+        return Step::Stop(PacketEndpointDisposition::Indeterminate);
+    }
+    let n = octets::get_u8(packet, at + 1) as usize;
+    pass(packet, end, at, unit * (n + uncounted))
+}
+
+// A Fragment header: offset, reserved bits and M leave no doubt of the source only where all are zero.
+fn fragment(packet: &[u8], end: usize, allowance: u8, at: usize) -> Step
+    ensures { λ r. ⌜ outcomeOf at r ≡ fragmentOf (now (packet .entry)) end allowance at ⌝ }
+{
+    if barred(allowance, at, 8, end) {
+        return Step::Stop(PacketEndpointDisposition::Indeterminate);
+    }
+    if octets::get_u16_be(packet, at + 2) != 0 {
+        return Step::Stop(PacketEndpointDisposition::Indeterminate);
+    }
+    pass(packet, end, at, 8)
+}
+
+// One header of the chain: the one of value `next` at `at`.
+fn take_step(packet: &[u8], port: u16, end: usize, allowance: u8, next: u8, at: usize) -> Step
+    ensures { λ r. ⌜ outcomeOf at r ≡ stepOf (now (packet .entry)) port end allowance next at ⌝ }
+{
+    let class = sort(next);
+    match class {
+        HeaderClass::Udp => Step::Stop(udp(packet, port, end, at)),
+        HeaderClass::Elsewhere => Step::Stop(PacketEndpointDisposition::Unrelated),
+        HeaderClass::Options => counted(packet, end, allowance, at, 8, 1),
+        HeaderClass::Authentication => counted(packet, end, allowance, at, 4, 2),
+        HeaderClass::Fragment => fragment(packet, end, allowance, at),
+        HeaderClass::Other => Step::Stop(PacketEndpointDisposition::Indeterminate),
+    }
+}
+
+fn number(disposition: PacketEndpointDisposition) -> u8
+    ensures { λ r. ⌜ (r ≡ dispositionNumber disposition) × (r ≤ 2) ⌝ }
+{
+    match disposition {
+        PacketEndpointDisposition::Protected => 0,
+        PacketEndpointDisposition::Unrelated => 1,
+        PacketEndpointDisposition::Indeterminate => 2,
+    }
+}
+
+fn disposition_of(number: u8) -> PacketEndpointDisposition
+    requires { ⌜ number ≤ 2 ⌝ }
+    ensures { λ r. ⌜ dispositionNumber r ≡ number ⌝ }
+{
+    match number {
+        0 => PacketEndpointDisposition::Protected,
+        1 => PacketEndpointDisposition::Unrelated,
+        _ => PacketEndpointDisposition::Indeterminate,
+    }
+}
+
+// The chain from `at` on: after a header, the rest is read with an allowance one smaller. The headers passed are added to `headers`.
+//
+// The answer is the disposition's number, and the packet is lent by a reference to it: with nothing but numbers and plain
+// references handed on, the compiler makes a loop of the last call.
+fn walk(
+    packet: &&[u8],
+    port: u16,
+    end: usize,
+    allowance: u8,
+    next: u8,
+    at: usize,
+    headers: &mut u8,
+) -> u8
+    requires { ⌜ now headers + allowance ≤ 4 ⌝ }
+    ensures { λ r. ⌜ Walked (walkOf (now (now (packet .entry))) port end allowance next at) (now (headers .entry)) r (now (headers .exit)) ⌝ }
+{
+    let whole = *packet;
+    let found = take_step(whole, port, end, allowance, next, at);
+    match found {
+        Step::Stop(disposition) => number(disposition),
+        Step::Pass { next, at } => {
+            *headers = *headers + 1;
+            walk(packet, port, end, allowance - 1, next, at, headers)
+        }
+    }
+}
+
+// ---- the two families
+
+// Whether an IPv4 packet's source, which begins at 12, is the address. It is compared where it stands, as one number.
+fn same_ipv4(packet: &[u8], address: &[u8]) -> bool
+    ensures { λ r. ⌜ r ≡ sameOctets (source4 (now (packet .entry))) (octetsAt (now (address .entry)) 0 4) ⌝ }
+{
+    octets::get_u32_le(packet, 12) == octets::get_u32_le(address, 0)
+}
+
+// The same of an IPv6 packet's source, which begins at 8, as two numbers. Called from one place only, so that the compiler puts it
+// there, behind the test of the packet's length, and the readers' tests fold away.
+fn same_ipv6(packet: &[u8], address: &[u8]) -> bool
+    ensures { λ r. ⌜ r ≡ sameOctets (source6 (now (packet .entry))) (octetsAt (now (address .entry)) 0 16) ⌝ }
+{
+    let first = octets::get_u64_le(packet, 8);
+    let second = octets::get_u64_le(packet, 16);
+    let wanted_first = octets::get_u64_le(address, 0);
+    let wanted_second = octets::get_u64_le(address, 8);
+    if first == wanted_first {
+        second == wanted_second
+    } else {
+        false
+    }
+}
+
+fn ipv4(packet: &[u8], endpoint: ProtectedEndpoint) -> PacketReading
+    ensures { λ r. ⌜ answerOf r ≡ ipv4Of (now (packet .entry)) endpoint ⌝ }
+{
+    let address = endpoint.address;
+    let port = endpoint.port;
+    if packet.len() < 20 {
+        return stopped(PacketEndpointDisposition::Indeterminate);
+    }
+    let size = 4 * ((octets::get_u8(packet, 0) % 16) as usize);
+    if size < 20 {
+        return stopped(PacketEndpointDisposition::Indeterminate);
+    }
+    if !same_ipv4(packet, &address) {
+        return stopped(PacketEndpointDisposition::Unrelated);
+    }
+    let total = octets::get_u16_be(packet, 2) as usize;
+    if total < size {
+        return stopped(PacketEndpointDisposition::Indeterminate);
+    }
+    if packet.len() < total {
+        return stopped(PacketEndpointDisposition::Indeterminate);
+    }
+    if octets::get_u8(packet, 9) != 17 {
+        return stopped(PacketEndpointDisposition::Unrelated);
+    }
+    if octets::get_u16_be(packet, 6) & 0xbfff != 0 {
+        return stopped(PacketEndpointDisposition::Indeterminate);
+    }
+    stopped(udp(packet, port, total, size))
+}
+
+fn ipv6(packet: &[u8], endpoint: ProtectedEndpoint) -> PacketReading
+    ensures { λ r. ⌜ answerOf r ≡ ipv6Of (now (packet .entry)) endpoint ⌝ }
+{
+    let address = endpoint.address;
+    let port = endpoint.port;
+    if packet.len() < 40 {
+        return stopped(PacketEndpointDisposition::Indeterminate);
+    }
+    if !same_ipv6(packet, &address) {
+        return stopped(PacketEndpointDisposition::Unrelated);
+    }
+    let payload = octets::get_u16_be(packet, 4) as usize;
+    if payload == 0 {
+        return stopped(PacketEndpointDisposition::Indeterminate);
+    }
+    let end = 40 + payload;
+    if packet.len() < end {
+        return stopped(PacketEndpointDisposition::Indeterminate);
+    }
+    let next = octets::get_u8(packet, 6);
+    let mut headers = 0u8;
+    let answer = walk(
+        &packet,
+        port,
+        end,
+        MAX_IPV6_EXTENSION_HEADERS,
+        next,
+        40,
+        &mut headers,
+    );
+    let disposition = disposition_of(answer);
+    PacketReading {
+        disposition,
+        headers,
+    }
+}
+
+// An endpoint of another family than the packet's: none of its packets, if there is such a family.
+fn foreign(family: u8) -> PacketReading
+    ensures { λ r. ⌜ answerOf r ≡ cond (known family) (stop 0 1) (stop 0 2) ⌝ }
+{
+    if family == 4 {
+        stopped(PacketEndpointDisposition::Unrelated)
+    } else if family == 6 {
+        stopped(PacketEndpointDisposition::Unrelated)
+    } else {
+        stopped(PacketEndpointDisposition::Indeterminate)
+    }
+}
+
+// Reads the packet's source against the endpoint.
+pub fn classify_l3_udp_source(packet: &[u8], endpoint: ProtectedEndpoint) -> PacketReading
+    ensures { λ r. ⌜ answerOf r ≡ classifyOf (now (packet .entry)) endpoint ⌝ }
+{
+    let family = endpoint.family;
+    if packet.len() == 0 {
+        return stopped(PacketEndpointDisposition::Indeterminate);
+    }
+    match octets::get_u8(packet, 0) / 16 {
+        4 => {
+            if family == 4 {
+                ipv4(packet, endpoint)
+            } else {
+                foreign(family)
+            }
+        }
+        6 => {
+            if family == 6 {
+                ipv6(packet, endpoint)
+            } else {
+                foreign(family)
+            }
+        }
+        _ => stopped(PacketEndpointDisposition::Indeterminate),
+    }
+}
