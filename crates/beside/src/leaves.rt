@@ -1,5 +1,6 @@
 // Queries 1 to 5: deadlines, and the endpoint's constructors and match tests. Each puts its answer at a place of `out` and answers how
 // long it is, or 0 where the body has not the query's length.
+use crate::fields;
 use deadline::RefreshDeadlineDecision;
 use endpoint::EndpointAnswer;
 use endpoint::ProtectedEndpoint;
@@ -48,7 +49,7 @@ fn array16(s: &[u8], at: usize) -> [u8; 16]
 }
 
 // An endpoint as a query has it: family, sixteen bytes of address, port.
-fn endpoint_of(body: &[u8]) -> ProtectedEndpoint {
+pub(crate) fn endpoint_of(body: &[u8]) -> ProtectedEndpoint {
     ProtectedEndpoint {
         family: octets::get_u8(body, 0),
         address: array16(body, 1),
@@ -61,15 +62,8 @@ fn put_made(made: EndpointAnswer, out: &mut [u8], at: usize) -> usize
     requires { ⌜ at ≤ 65536 ⌝ }
     ensures { λ r. ⌜ r ≤ 512 ⌝ }
 {
-    let endpoint = made.endpoint;
-    let address = endpoint.address;
-    let high = octets::get_u64_le(&address, 0);
-    let low = octets::get_u64_le(&address, 8);
     octets::put_u8(out, at, (made.number % 256) as u8);
-    octets::put_u8(out, at + 1, endpoint.family);
-    octets::put_u64_le(out, at + 2, high);
-    octets::put_u64_le(out, at + 10, low);
-    octets::put_u16_le(out, at + 18, endpoint.port());
+    fields::put_endpoint(made.endpoint, out, at + 1);
     20
 }
 

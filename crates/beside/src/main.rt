@@ -4,7 +4,11 @@
 // A stream is blocks: a u32 length of at most 65,536, then that many bytes of whole queries. A query is a kind (u8), a body length
 // (u16) and the body; numbers are little-endian. The answers follow each other with nothing in between. A stream that is malformed
 // gets one line on descriptor 2, after the answers to the queries before the fault, and an end.
+mod codecs;
+mod constructors;
+mod fields;
 mod leaves;
+mod packets;
 
 use libc::STDERR_FILENO;
 use libc::STDIN_FILENO;
@@ -158,11 +162,69 @@ fn answer(kind: u8, body: &[u8], out: &mut [u8], at: usize) -> usize
     ensures { λ r. ⌜ r ≤ 512 ⌝ }
 {
     match kind {
+        0..=15 => answer_leaf(kind, body, out, at),
+        16..=31 => answer_codec(kind, body, out, at),
+        _ => answer_constructor(kind, body, out, at),
+    }
+}
+
+fn answer_leaf(kind: u8, body: &[u8], out: &mut [u8], at: usize) -> usize
+    requires { ⌜ at ≤ 65536 ⌝ }
+    ensures { λ r. ⌜ r ≤ 512 ⌝ }
+{
+    match kind {
         1 => leaves::answer_deadline(body, out, at),
         2 => leaves::answer_ipv4(body, out, at),
         3 => leaves::answer_ipv6(body, out, at),
         4 => leaves::answer_matches_ipv4(body, out, at),
         5 => leaves::answer_matches_ipv6(body, out, at),
+        8 => packets::answer_packet(body, out, at),
+        _ => 0,
+    }
+}
+
+fn answer_codec(kind: u8, body: &[u8], out: &mut [u8], at: usize) -> usize
+    requires { ⌜ at ≤ 65536 ⌝ }
+    ensures { λ r. ⌜ r ≤ 512 ⌝ }
+{
+    match kind {
+        16 => codecs::decode_current(body, out, at),
+        17 => codecs::decode_mutation(body, out, at),
+        18 => codecs::decode_key(body, out, at),
+        19 => codecs::decode_entry(body, out, at),
+        20 => codecs::decode_value(body, out, at),
+        21 => codecs::decode_config(body, out, at),
+        22 => codecs::decode_inspection(body, out, at),
+        24 => codecs::encode_current(body, out, at),
+        25 => codecs::encode_mutation(body, out, at),
+        26 => codecs::encode_key(body, out, at),
+        27 => codecs::encode_entry(body, out, at),
+        28 => codecs::encode_value(body, out, at),
+        29 => codecs::encode_config(body, out, at),
+        30 => codecs::encode_inspection(body, out, at),
+        _ => 0,
+    }
+}
+
+fn answer_constructor(kind: u8, body: &[u8], out: &mut [u8], at: usize) -> usize
+    requires { ⌜ at ≤ 65536 ⌝ }
+    ensures { λ r. ⌜ r ≤ 512 ⌝ }
+{
+    match kind {
+        32 => constructors::current_initial(body, out, at),
+        33 => constructors::lifecycle_open(body, out, at),
+        34 => constructors::retirement_closed(body, out, at),
+        35 => constructors::registered(body, out, at),
+        36 => constructors::mutation_initial(body, out, at),
+        37 => constructors::mutation(body, out, at),
+        38 => constructors::key(body, out, at),
+        39 => constructors::initial_closed(body, out, at),
+        40 => constructors::active(body, out, at),
+        41 => constructors::terminal_closed(body, out, at),
+        42 => constructors::reclaiming(body, out, at),
+        43 => constructors::value(body, out, at),
+        44 => constructors::config(body, out, at),
+        45 => constructors::inspection(body, out, at),
         _ => 0,
     }
 }

@@ -8,15 +8,17 @@ use crate::suites::{Amount, Sink, Suite, SUITES};
 use std::collections::BTreeMap;
 use std::fs::File;
 use std::io::{BufWriter, Read, Write};
-use std::process::{ChildStdin, Command, Stdio};
-use std::sync::mpsc::{sync_channel, SyncSender};
-use std::time::Instant;
+use std::process::{ChildStdin, ChildStdout, Command, Stdio};
+use std::sync::mpsc::{channel, sync_channel, Receiver, SyncSender};
+use std::time::{Duration, Instant};
 
 const BLOCK: usize = 65_536;
+/// How long an answer may take.
+const PATIENCE: Duration = Duration::from_secs(60);
 /// How many differences are shown.
 const SHOWN: usize = 5;
 /// How many queries of each outcome the fixed list keeps.
-const KEPT: usize = 160;
+const KEPT: usize = 60;
 
 /// A block of queries with the original's answers.
 #[derive(Default)]
@@ -87,6 +89,44 @@ impl Sink for Feeder {
     }
 }
 
+/// What the other process writes. It is read as it comes, so that neither process can wait for the other for ever.
+struct Answers {
+    pieces: Receiver<Vec<u8>>,
+    held: Vec<u8>,
+}
+
+impl Answers {
+    fn new(mut from: ChildStdout) -> Self {
+        let (on, pieces) = channel();
+        std::thread::spawn(move || {
+            let mut piece = vec![0; BLOCK];
+            while let Ok(n @ 1..) = from.read(&mut piece) {
+                if on.send(piece[..n].to_vec()).is_err() {
+                    return;
+                }
+            }
+        });
+        Self {
+            pieces,
+            held: Vec::new(),
+        }
+    }
+
+    /// The next `n` bytes, or none where there are fewer, or no more come.
+    fn take(&mut self, n: usize) -> Option<Vec<u8>> {
+        while self.held.len() < n {
+            self.held.extend(self.pieces.recv_timeout(PATIENCE).ok()?);
+        }
+        let later = self.held.split_off(n);
+        Some(std::mem::replace(&mut self.held, later))
+    }
+
+    /// How many bytes are left.
+    fn rest(self) -> usize {
+        self.held.len() + self.pieces.into_iter().map(|piece| piece.len()).sum::<usize>()
+    }
+}
+
 pub fn compare(suite: &'static Suite, amount: Amount, command: &[&str]) -> Result<(), String> {
     let began = Instant::now();
     let mut child = Command::new(command[0])
@@ -96,7 +136,7 @@ pub fn compare(suite: &'static Suite, amount: Amount, command: &[&str]) -> Resul
         .spawn()
         .map_err(|error| format!("{} cannot be started: {error}", command[0]))?;
     let to = child.stdin.take().expect("the child's input is a pipe");
-    let mut from = child.stdout.take().expect("the child's output is a pipe");
+    let mut from = Answers::new(child.stdout.take().expect("the child's output is a pipe"));
     let (on, blocks) = sync_channel::<Block>(16);
     let feeder = std::thread::spawn(move || {
         let mut feeder = Feeder {
@@ -113,22 +153,20 @@ pub fn compare(suite: &'static Suite, amount: Amount, command: &[&str]) -> Resul
     let mut differences = 0u64;
     let mut cut = false;
     for block in blocks {
-        let mut got = vec![0; block.answers.len()];
-        if from.read_exact(&mut got).is_err() {
+        let Some(got) = from.take(block.answers.len()) else {
             cut = true;
             break;
-        }
+        };
         differences += differing(&block, &got, differences);
     }
-    let mut rest = Vec::new();
-    if !cut {
-        from.read_to_end(&mut rest).map_err(|error| error.to_string())?;
+    if cut {
+        let _ = child.kill();
     }
-    drop(from);
+    let rest = from.rest();
     let tally = feeder.join().map_err(|_| "the maker of queries failed")?;
     child.wait().map_err(|error| error.to_string())?;
     report(suite, &tally, differences, began);
-    judge(suite, &tally, differences, cut, rest.len())
+    judge(suite, &tally, differences, cut, rest)
 }
 
 /// Counts the queries of a block that were answered in another way, and shows the first few.
@@ -166,7 +204,7 @@ fn report(suite: &Suite, tally: &BTreeMap<&'static str, u64>, differences: u64, 
 
 fn judge(suite: &Suite, tally: &BTreeMap<&'static str, u64>, differences: u64, cut: bool, rest: usize) -> Result<(), String> {
     if cut {
-        return Err("beside ended before it had answered every query".into());
+        return Err("beside ended, or fell silent, before it had answered every query".into());
     }
     if rest > 0 {
         return Err(format!("beside wrote {rest} bytes more than the answers"));

@@ -37,7 +37,7 @@ pub const MATCHED: Suite = Suite {
 const PORTS: [u16; 6] = [0, 1, 255, 256, 4500, 65535];
 
 /// An endpoint as bytes: family, sixteen bytes of address, port.
-fn endpoint_bytes(family: u8, address: &[u8], port: u16) -> Vec<u8> {
+pub fn endpoint_bytes(family: u8, address: &[u8], port: u16) -> Vec<u8> {
     let mut bytes = vec![family];
     bytes.extend_from_slice(address);
     bytes.resize(17, 0);
@@ -134,7 +134,7 @@ fn near_ipv6(rng: &mut Rng) -> [u8; 16] {
 }
 
 /// The original's endpoint of a family, its address and port; none for a family that the original cannot hold.
-fn original(family: u8, address: &[u8; 16], port: u16) -> Option<ProtectedEndpoint> {
+pub fn original(family: u8, address: &[u8; 16], port: u16) -> Option<ProtectedEndpoint> {
     match family {
         4 => Some(ProtectedEndpoint::Ipv4 {
             address: [address[0], address[1], address[2], address[3]],

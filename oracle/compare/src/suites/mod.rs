@@ -1,7 +1,10 @@
 //! The suites: each makes queries, with the original's answers and a name for each outcome.
 
+mod constructors;
 mod deadline;
 mod endpoint;
+mod packet;
+mod records;
 
 /// How much of a suite is run: a sample, in the gate, or all of it, before a landing.
 #[derive(Clone, Copy, PartialEq, Eq)]
@@ -33,4 +36,11 @@ pub struct Suite {
     pub run: fn(&mut dyn Sink, Amount),
 }
 
-pub static SUITES: &[Suite] = &[deadline::SUITE, endpoint::MADE, endpoint::MATCHED];
+pub static SUITES: &[Suite] = &[
+    deadline::SUITE,
+    endpoint::MADE,
+    endpoint::MATCHED,
+    records::SUITE,
+    constructors::SUITE,
+    packet::SUITE,
+];
