@@ -4,7 +4,7 @@ use Rattle.records.proofs.config.FenceConfig.new.Statement.{statement}
 use Rattle.records.proofs.config.FenceConfig.new.Tie as tie
 
 returns : tie.Need-returns
-returns c = 
+returns c =
     let second = c .before in
     rw (← second .before .before .get-u64-le .ensures, ← second .get-u64-le2 .ensures) (c .from-fields .ensures)
 

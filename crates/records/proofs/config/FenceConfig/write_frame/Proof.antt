@@ -4,7 +4,7 @@ use Rattle.records.proofs.config.FenceConfig.write_frame.Statement.{sta
 use Rattle.records.proofs.config.FenceConfig.write_frame.Tie as tie
 
 returns : tie.Need-returns
-returns c = 
+returns c =
     let p8 = c .before .before in
     let p7 = p8 .before .before .before .before in
     let p6 = p7 .before .before .before .before in

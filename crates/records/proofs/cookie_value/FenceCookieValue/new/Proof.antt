@@ -9,13 +9,13 @@ use Rattle.records.proofs.cookie_value.FenceCookieValue.new.Statement.{
 use Rattle.records.proofs.cookie_value.FenceCookieValue.new.Tie as tie
 
 returns : tie.Need-returns
-returns c = 
+returns c =
     let a = c .before .before .agree in
     let b = agreeing (c .before .before .before .args .key) (c .before .before .before .args .entry) in
     built-refused (asking b cookieValueCodec) (simp (← a .ensures, not-true (a .result) (c .before .if1 .taken))) (c .refused .ensures)
 
 returns-2 : tie.Need-returns-2
-returns-2 c = 
+returns-2 c =
     let tested = c .before .before .before .before .before .before in
     let a = tested .before .agree in
     let b = agreeing (tested .before .before .args .key) (tested .before .before .args .entry) in

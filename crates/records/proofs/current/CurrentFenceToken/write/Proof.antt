@@ -5,7 +5,7 @@ use Rattle.records.proofs.current.CurrentFenceToken.write.Statement.{st
 use Rattle.records.proofs.current.CurrentFenceToken.write.Tie as tie
 
 returns : tie.Need-returns
-returns c = 
+returns c =
     let p4 = c .before .before in
     let p3 = p4 .before .before .before .before in
     let p2 = p3 .before .before .before .before in
