@@ -7,3 +7,4 @@ pub mod CookieValueLaws
 pub mod AddressLaws
 pub mod ConfigLaws
 pub mod InspectionLaws
+pub mod Unique

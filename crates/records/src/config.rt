@@ -14,6 +14,7 @@ pub struct FenceConfig {
     pub capacity: u32,
 }
 
+// What a constructor or the decoder answers: 0 and the record, or a refusal's number and the all-zero record.
 pub struct ConfigAnswer {
     pub number: u32,
     pub value: FenceConfig,
@@ -34,6 +35,7 @@ fn frame_rule(mark: u32, version: u16, zero: u8, zeros: u16, capacity: u32, root
         && (zero == 0 && (zeros == 0 && (root != 0 && version_rule(version, capacity))))
 }
 
+// A refusal.
 fn refused(number: u32) -> ConfigAnswer
     ensures { λ r. ⌜ (r .number ≡ number) × (r .value ≡ configCodec .blank) ⌝ }
 {

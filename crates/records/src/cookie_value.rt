@@ -21,6 +21,7 @@ pub struct FenceCookieValue {
     pub control_epoch: ControlEpoch,
 }
 
+// What a constructor or the decoder answers: 0 and the record, or a refusal's number and the all-zero record.
 pub struct CookieValueAnswer {
     pub number: u32,
     pub value: FenceCookieValue,
@@ -32,6 +33,7 @@ fn rule(zeros: u32, control: u32, cookie: u64, token: u64, deadline: u64, epoch:
     zeros == 0 && (cookie != 0 && crate::entry::state_rule(control, token, deadline, epoch))
 }
 
+// A refusal.
 fn refused(number: u32) -> CookieValueAnswer
     ensures { λ r. ⌜ (r .number ≡ number) × (r .value ≡ cookieValueCodec .blank) ⌝ }
 {

@@ -16,6 +16,7 @@ pub struct CurrentFenceToken {
     pub retirement_closed: bool,
 }
 
+// What a constructor or the decoder answers: 0 and the record, or a refusal's number and the all-zero record.
 pub struct CurrentAnswer {
     pub number: u32,
     pub value: CurrentFenceToken,
@@ -35,6 +36,7 @@ fn rule(zeros: u32, control: u32, token: u64, cookie: u64) -> bool
     }
 }
 
+// A refusal.
 fn refused(number: u32) -> CurrentAnswer
     ensures { λ r. ⌜ (r .number ≡ number) × (r .value ≡ currentCodec .blank) ⌝ }
 {

@@ -26,6 +26,7 @@ pub struct FenceEntry {
     pub control_epoch: ControlEpoch,
 }
 
+// What a constructor or the decoder answers: 0 and the record, or a refusal's number and the all-zero record.
 pub struct EntryAnswer {
     pub number: u32,
     pub value: FenceEntry,
@@ -57,6 +58,7 @@ fn rule(zeros: u32, control: u32, token: u64, deadline: u64, epoch: u64) -> bool
     zeros == 0 && state_rule(control, token, deadline, epoch)
 }
 
+// A refusal.
 fn refused(number: u32) -> EntryAnswer
     ensures { λ r. ⌜ (r .number ≡ number) × (r .value ≡ entryCodec .blank) ⌝ }
 {

@@ -22,17 +22,19 @@ pub struct FenceInspection {
     pub entry: InspectedEntry,
 }
 
+// What a constructor or the decoder answers: 0 and the record, or a refusal's number and the all-zero record.
 pub struct InspectionAnswer {
     pub number: u32,
     pub value: FenceInspection,
 }
 
-// What the bytes of the inner entry give.
+// What the bytes of the inner entry give: 0 and the entry, or 2 and none.
 struct PartAnswer {
     number: u32,
     value: InspectedEntry,
 }
 
+// A refusal.
 fn refused(number: u32) -> InspectionAnswer
     ensures { λ r. ⌜ (r .number ≡ number) × (r .value ≡ inspectionCodec .blank) ⌝ }
 {
@@ -48,6 +50,7 @@ fn refused(number: u32) -> InspectionAnswer
 
 // ---- reading
 
+// Mark, version, and the zero after the flag.
 fn head_is_right(s: &[u8]) -> bool
     ensures { λ r. ⌜ r ≡ headRule (be (octetsAt (now (s .entry)) 0 4)) (le (octetsAt (now (s .entry)) 4 2)) (le (octetsAt (now (s .entry)) 7 1)) ⌝ }
 {
@@ -75,6 +78,7 @@ fn four_zeros(a: u64, b: u64, c: u64, d: u64) -> bool
     true
 }
 
+// The forty bytes at the end.
 fn tail_is_zero(s: &[u8]) -> bool
     ensures { λ r. ⌜ r ≡ allZero (fieldsAt tailLayout (now (s .entry)) 88) ⌝ }
 {
@@ -86,6 +90,7 @@ fn tail_is_zero(s: &[u8]) -> bool
     a == 0 && four_zeros(b, c, d, e)
 }
 
+// The forty bytes in the place of an inner entry.
 fn part_is_zero(s: &[u8]) -> bool
     ensures { λ r. ⌜ r ≡ allZero (fieldsAt (cookieValueCodec .layout) (now (s .entry)) 48) ⌝ }
 {
@@ -107,6 +112,7 @@ fn absent(number: u32) -> PartAnswer
     }
 }
 
+// An inner entry under flag 1.
 fn present(s: &[u8]) -> PartAnswer
     ensures { λ r. ⌜ Built (partCodec 1) (fieldsAt (cookieValueCodec .layout) (now (s .entry)) 48) (r .number) (r .value) ⌝ }
 {
@@ -176,6 +182,7 @@ fn read(s: &[u8]) -> InspectionAnswer
 
 // ---- writing
 
+// Mark, version, flag and the zero after it.
 fn write_head(out: &mut [u8], flag: u8)
     ensures { λ r. ⌜ now (out .exit) ≡ puts headLayout (inspectionMark ∷ 5 ∷ flag ∷ 0 ∷ []) (now (out .entry)) 0 ⌝ }
 {
@@ -185,6 +192,7 @@ fn write_head(out: &mut [u8], flag: u8)
     octets::put_u8(out, 7, 0);
 }
 
+// Zeros in the place of an inner entry.
 fn write_absent(out: &mut [u8])
     ensures { λ r. ⌜ now (out .exit) ≡ puts (cookieValueCodec .layout) (0 ∷ zeroTail) (now (out .entry)) 48 ⌝ }
 {
@@ -196,6 +204,7 @@ fn write_absent(out: &mut [u8])
     octets::put_u64_le(out, 80, 0);
 }
 
+// The forty zeros at the end.
 fn write_tail(out: &mut [u8])
     ensures { λ r. ⌜ now (out .exit) ≡ puts tailLayout zeroTail (now (out .entry)) 88 ⌝ }
 {

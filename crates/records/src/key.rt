@@ -12,6 +12,7 @@ pub struct FenceCookieKey {
     pub durable_fence_token: DurableFenceToken,
 }
 
+// What a constructor or the decoder answers: 0 and the record, or a refusal's number and the all-zero record.
 pub struct KeyAnswer {
     pub number: u32,
     pub value: FenceCookieKey,
@@ -23,6 +24,7 @@ fn rule(cookie: u64, token: u64) -> bool
     cookie != 0 && token != 0
 }
 
+// A refusal.
 fn refused(number: u32) -> KeyAnswer
     ensures { λ r. ⌜ (r .number ≡ number) × (r .value ≡ keyCodec .blank) ⌝ }
 {

@@ -11,6 +11,7 @@ pub struct FenceMutationAuthority {
     pub in_flight_claim: u64,
 }
 
+// What a constructor or the decoder answers: 0 and the record, or a refusal's number and the all-zero record.
 pub struct MutationAnswer {
     pub number: u32,
     pub value: FenceMutationAuthority,
@@ -23,6 +24,7 @@ fn rule(generation: u64, claim: u64) -> bool
     claim == 0 || (generation < 0xffff_ffff_ffff_ffff && claim == generation + 1)
 }
 
+// A refusal.
 fn refused(number: u32) -> MutationAnswer
     ensures { λ r. ⌜ (r .number ≡ number) × (r .value ≡ mutationCodec .blank) ⌝ }
 {

@@ -2,7 +2,7 @@
 use mathlib.Core.Path.{sym, _∙_}
 use borrow.Author.Tests.{not-true, not-false}
 use Rattle.octets.specs.Codec.{asking}
-use Rattle.octets.proofs.CodecLaws.{built-of, built-refused, built-asked}
+use Rattle.octets.proofs.CodecLaws.{built-refused, built-asked}
 use Rattle.records.specs.CookieValue.{agreeing, cookieValueCodec}
 use borrow.Author.Needs.{needs}
 use Rattle.records.proofs.cookie_value.FenceCookieValue.new.Statement.{statement}
@@ -19,7 +19,7 @@ returns-2 c =
     let tested = c .before .before .before .before .before .before in
     let a = tested .before .agree in
     let b = agreeing (tested .before .before .args .key) (tested .before .before .args .entry) in
-    built-asked cookieValueCodec b (sym (a .ensures) ∙ not-false (a .result) (tested .if1 .left)) (built-of cookieValueCodec (cc) (c .from-fields .ensures))
+    built-asked cookieValueCodec b (sym (a .ensures) ∙ not-false (a .result) (tested .if1 .left)) (rw (← c .before .control .ensures) (c .from-fields .ensures))
 
 pub new-spec : {M : Type 1} → statement M
 new-spec =

@@ -5,7 +5,12 @@ use Rattle.records.proofs.current.CurrentFenceToken.write.Statement.{st
 use Rattle.records.proofs.current.CurrentFenceToken.write.Tie as tie
 
 returns : tie.Need-returns
-returns c = simp add-assoc (cc)
+returns c =
+    let p4 = c .before .before in
+    let p3 = p4 .before .before .before .before in
+    let p2 = p3 .before .before .before .before in
+    let p1 = p2 .before .before .before .before .before in
+    rw (p4 .put-u64-le2 .ensures, p3 .put-u64-le .ensures, p2 .put-u32-le2 .ensures, p1 .put-u32-le .ensures, p2 .before .control .ensures) (simp add-assoc)
 
 pub write-spec : {M : Type 1} → statement M
 write-spec =
