@@ -16,21 +16,14 @@ use Rattle.packet.specs.Reading.{Answer, Outcome, settled, onward, follo
 
 -- ---- the sorting, as a `match` with its groups tells it
 
-pub sort-elsewhere : (x : ℕ) → (x ≡ 6) ⊎ (x ≡ 50) → 1 ≡ sortOf x
-unfolding sortOf
-sort-elsewhere x (inl e) = simp e
-sort-elsewhere x (inr e) = simp e
+-- a value's class is that of the number it equals
+pub sort-as : (x v : ℕ) → x ≡ v → sortOf v ≡ sortOf x
+sort-as x v e = sym (ap sortOf e)
 
-pub sort-late : (x : ℕ) → 58 ≤ x → x < 60 → 1 ≡ sortOf x
-unfolding sortOf
-sort-late x a b =
-    ⊎-elim (λ e. let h : x ≡ 58 = sym e in simp h) (λ l. let h : x ≡ 59 = omega arith in simp h) (eq-or-lt-of-le a)
-
-pub sort-options : (x : ℕ) → (x ≡ 0) ⊎ ((x ≡ 43) ⊎ (x ≡ 60)) → 2 ≡ sortOf x
-unfolding sortOf
-sort-options x (inl e) = simp e
-sort-options x (inr (inl e)) = simp e
-sort-options x (inr (inr e)) = simp e
+-- 58 and 59, which a `match` tells by their range
+pub sort-range : (x : ℕ) → 58 ≤ x → x < 60 → (sortOf 58 ≡ sortOf x) ⊎ (sortOf 59 ≡ sortOf x)
+sort-range x a b =
+    ⊎-elim (λ e. inl (ap sortOf e)) (λ l. let h : x ≡ 59 = omega arith in inr (sort-as x 59 h)) (eq-or-lt-of-le a)
 
 -- none of the ten values
 pub sort-other : (x : ℕ) → ((((Unit {0} × (x ≡ 17 → ⊥)) × ((x ≡ 6) ⊎ (x ≡ 50) → ⊥)) × ((x ≡ 0) ⊎ ((x ≡ 43) ⊎ (x ≡ 60)) → ⊥)) × (x ≡ 51 → ⊥)) × (x ≡ 44 → ⊥) → (x ≡ 58 → ⊥) → (x ≡ 59 → ⊥) → 5 ≡ sortOf x
@@ -104,7 +97,7 @@ and-assoc false b c = refl
 same-parts : (s t : List ℕ) (i j n m : ℕ) →
     sameOctets (octetsAt s i (n + m)) (octetsAt t j (n + m)) ≡ (sameOctets (octetsAt s i n) (octetsAt t j n) && sameOctets (octetsAt s (i + n) m) (octetsAt t (j + n) m))
 unfolding octetsAt sameOctets
-same-parts s t i j zero m = rw (zero-add, add-zero, add-zero)
+same-parts s t i j zero m = rw (zero-add, add-zero i, add-zero j)
 same-parts s t i j (suc n) m =
     let u : i + 1 + n ≡ i + suc n = omega arith in
     let v : j + 1 + n ≡ j + suc n = omega arith in

@@ -1,26 +1,26 @@
--- The number and values of each case of the enums; 01 has none, so they are counted from 0 in the order of its text. Assumes nothing.
+-- What the code's types stand for: the number of each case, and the values of the definitions. Assumes nothing.
 use Prim.Native.Nat.{ℕ, _+_, _≤_}
 use mathlib.Core.Path.{_≡_}
-use Rattle.packet.specs.Reading.{Answer, Outcome, settled, onward}
+use Rattle.packet.specs.Reading.{protected, unrelated, indeterminate, Answer, Outcome, settled, onward}
 use Rattle.packet.specs.declared.PacketEndpointDisposition.{PacketEndpointDisposition}
 use Rattle.packet.specs.declared.PacketEndpointDisposition.the-variants.{Protected, Unrelated, Indeterminate}
 use Rattle.packet.specs.declared.PacketReading.{PacketReading}
 use Rattle.packet.specs.declared.HeaderClass.{HeaderClass}
-use Rattle.packet.specs.declared.HeaderClass.the-variants.{Udp, Elsewhere, Options, Authentication, Fragment, Other}
+use Rattle.packet.specs.declared.HeaderClass.the-variants.{Udp, NotUdp, Options, Authentication, Fragment, Other}
 use Rattle.packet.specs.declared.Step.{Step}
 use Rattle.packet.specs.declared.Step.the-variants.{Stop, Pass}
 
 abbrev pub dispositionNumber : PacketEndpointDisposition → ℕ
-dispositionNumber Protected = 0
-dispositionNumber Unrelated = 1
-dispositionNumber Indeterminate = 2
+dispositionNumber Protected = protected
+dispositionNumber Unrelated = unrelated
+dispositionNumber Indeterminate = indeterminate
 
 abbrev pub answerOf : PacketReading → Answer
 answerOf r = record { disposition = dispositionNumber (r .disposition); headers = r .headers }
 
 abbrev pub classNumber : HeaderClass → ℕ
 classNumber Udp = 0
-classNumber Elsewhere = 1
+classNumber NotUdp = 1
 classNumber Options = 2
 classNumber Authentication = 3
 classNumber Fragment = 4

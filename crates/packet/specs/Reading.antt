@@ -11,7 +11,17 @@ use Rattle.packet.specs.Rfc768 as udp
 use Rattle.packet.specs.Rfc8200 as ip6
 use Rattle.packet.specs.Rfc4302 as ah
 
--- an answer: the disposition by number, 0 Protected, 1 Unrelated, 2 Indeterminate, and the extension headers passed
+-- the dispositions by number: 01 gives none, so they are counted from 0 in the order of packet.rs
+abbrev pub protected : ℕ
+protected = 0
+
+abbrev pub unrelated : ℕ
+unrelated = 1
+
+abbrev pub indeterminate : ℕ
+indeterminate = 2
+
+-- an answer: the disposition, and the number of extension headers passed
 pub record Answer : Type 0 where
   pub disposition : ℕ
   pub headers : ℕ
@@ -51,46 +61,46 @@ byClass k p u o w f x = cond (eqb k 0) p (cond (eqb k 1) u (cond (eqb k 2) o (co
 
 -- 17: the UDP header at c, in a packet that ends at e. c + 8 > e: Indeterminate; else the port at c decides
 unfoldable pub udpOf : List ℕ → ℕ → ℕ → ℕ → ℕ
-udpOf s port e c = cond (ltb e (c + udp.udpLength)) 2 (cond (eqb (udp.sourcePort s c) port) 0 1)
+udpOf s port e c = cond (ltb e (c + udp.udpLength)) indeterminate (cond (eqb (udp.sourcePort s c) port) protected unrelated)
 
 -- an extension header at c, with allowance a, that has l bytes, of which r are looked at: no allowance, c + r > e, or the header
 -- passing e: Indeterminate. A Fragment header's bytes 2 and 3 must both be zero as well
 unfoldable pub passOf : List ℕ → ℕ → ℕ → ℕ → Outcome
-passOf s e c l = cond (ltb e (c + l)) (settled c 2) (onward (ip6.next s c) (c + l))
+passOf s e c l = cond (ltb e (c + l)) (settled c indeterminate) (onward (ip6.next s c) (c + l))
 
 abbrev pub entered : ℕ → ℕ → ℕ → ℕ → Outcome → Outcome
-entered e a c r o = cond (eqb a 0 || ltb e (c + r)) (settled c 2) o
+entered e a c r o = cond (eqb a 0 || ltb e (c + r)) (settled c indeterminate) o
 
 unfoldable pub countedOf : List ℕ → ℕ → ℕ → ℕ → ℕ → Outcome
 countedOf s e a c l = entered e a c 2 (passOf s e c l)
 
 unfoldable pub fragmentOf : List ℕ → ℕ → ℕ → ℕ → Outcome
-fragmentOf s e a c = entered e a c 8 (cond (eqb (ip6.fragmentWord s c) 0) (passOf s e c ip6.fragmentLength) (settled c 2))
+fragmentOf s e a c = entered e a c 8 (cond (eqb (ip6.fragmentWord s c) 0) (passOf s e c ip6.fragmentLength) (settled c indeterminate))
 
 -- the step at a header of value n
 unfoldable pub stepOf : List ℕ → ℕ → ℕ → ℕ → ℕ → ℕ → Outcome
 stepOf s port e a n c =
     byClass (sortOf n)
     (settled c (udpOf s port e c))
-    (settled c 1)
+    (settled c unrelated)
     (countedOf s e a c (ip6.optionsLength s c))
     (countedOf s e a c (ah.authenticationLength s c))
     (fragmentOf s e a c)
-    (settled c 2)
+    (settled c indeterminate)
 
 -- the walk: after a header, the rest of the chain is read with an allowance one smaller
 unfoldable pub walkOf : List ℕ → ℕ → ℕ → ℕ → ℕ → ℕ → Answer
-walkOf s port e zero n c = follow stop (stepOf s port e zero n c) (λ _ c′. stop c′ 2)
+walkOf s port e zero n c = follow stop (stepOf s port e zero n c) (λ _ c′. stop c′ indeterminate)
 walkOf s port e (suc a) n c = follow stop (stepOf s port e (suc a) n c) (λ n′ c′. passed (walkOf s port e a n′ c′))
 
 -- IPv4 (RFC 791), in order; at its end the UDP header stands at h and must end by t
 unfoldable pub ipv4Head : List ℕ → List ℕ → Outcome
 ipv4Head s address =
-    cond (ltb (length s) 20 || ltb (ip4.headerLength s) 20) (settled 0 2)
-    (cond (not (sameOctets (ip4.source s) (octetsAt address 0 4))) (settled 0 1)
-    (cond (ltb (ip4.totalLength s) (ip4.headerLength s) || ltb (length s) (ip4.totalLength s)) (settled 0 2)
-    (cond (not (eqb (ip4.protocol s) 17)) (settled 0 1)
-    (cond (not (ip4.whole s)) (settled 0 2)
+    cond (ltb (length s) 20 || ltb (ip4.headerLength s) 20) (settled 0 indeterminate)
+    (cond (not (sameOctets (ip4.source s) (octetsAt address 0 4))) (settled 0 unrelated)
+    (cond (ltb (ip4.totalLength s) (ip4.headerLength s) || ltb (length s) (ip4.totalLength s)) (settled 0 indeterminate)
+    (cond (not (eqb (ip4.protocol s) 17)) (settled 0 unrelated)
+    (cond (not (ip4.whole s)) (settled 0 indeterminate)
     (onward 17 (ip4.headerLength s))))))
 
 abbrev pub ipv4Of : List ℕ → ProtectedEndpoint → Answer
@@ -99,9 +109,9 @@ ipv4Of s p = follow stop (ipv4Head s (p .address)) (λ _ h. stop h (udpOf s (p .
 -- IPv6 (RFC 8200); the walk begins at 40 with an allowance of 4
 unfoldable pub ipv6Head : List ℕ → List ℕ → Outcome
 ipv6Head s address =
-    cond (ltb (length s) 40) (settled 0 2)
-    (cond (not (sameOctets (ip6.source s) (octetsAt address 0 16))) (settled 0 1)
-    (cond (eqb (ip6.payloadLength s) 0 || ltb (length s) (ip6.end s)) (settled 0 2)
+    cond (ltb (length s) 40) (settled 0 indeterminate)
+    (cond (not (sameOctets (ip6.source s) (octetsAt address 0 16))) (settled 0 unrelated)
+    (cond (eqb (ip6.payloadLength s) 0 || ltb (length s) (ip6.end s)) (settled 0 indeterminate)
     (onward (ip6.firstNext s) 40)))
 
 abbrev pub ipv6Of : List ℕ → ProtectedEndpoint → Answer
@@ -113,7 +123,7 @@ known f = eqb f 4 || eqb f 6
 
 unfoldable pub classifyOf : List ℕ → ProtectedEndpoint → Answer
 classifyOf s p =
-    cond (not (known (p .family)) || eqb (length s) 0) (stop 0 2)
-    (cond (eqb (ip4.version s) 4) (cond (eqb (p .family) 4) (ipv4Of s p) (stop 0 1))
-    (cond (eqb (ip4.version s) 6) (cond (eqb (p .family) 6) (ipv6Of s p) (stop 0 1))
-    (stop 0 2)))
+    cond (not (known (p .family)) || eqb (length s) 0) (stop 0 indeterminate)
+    (cond (eqb (ip4.version s) 4) (cond (eqb (p .family) 4) (ipv4Of s p) (stop 0 unrelated))
+    (cond (eqb (ip4.version s) 6) (cond (eqb (p .family) 6) (ipv6Of s p) (stop 0 unrelated))
+    (stop 0 indeterminate)))

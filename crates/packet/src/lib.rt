@@ -11,14 +11,14 @@ ghost use Rattle.octets.specs.Octets.{octetsAt, sameOctets};
 ghost use Rattle.packet.specs.Rfc791.{source as source4};
 ghost use Rattle.packet.specs.Rfc8200.{source as source6, lengthByte};
 ghost use Rattle.packet.specs.Answers.{dispositionNumber, answerOf, classNumber, outcomeOf, Walked};
-ghost use Rattle.packet.specs.Reading.{stop, sortOf, udpOf, passOf, countedOf, fragmentOf, stepOf, walkOf, ipv4Of, ipv6Of, known, classifyOf};
+ghost use Rattle.packet.specs.Reading.{unrelated, indeterminate, stop, sortOf, udpOf, passOf, countedOf, fragmentOf, stepOf, walkOf, ipv4Of, ipv6Of, known, classifyOf};
 
 pub enum PacketEndpointDisposition {
     // The packet is proven to use the protected UDP source.
     Protected,
     // The packet is understood well enough to prove that it does not.
     Unrelated,
-    // A packet that is cut, malformed or too long a chain proves neither.
+    // A packet that is cut or malformed, or whose chain of headers is too long, proves neither.
     Indeterminate,
 }
 
@@ -31,7 +31,7 @@ pub struct PacketReading {
 // What a next-header value calls for: the port test, Unrelated, one of three length rules, or Indeterminate.
 enum HeaderClass {
     Udp,
-    Elsewhere,
+    NotUdp,
     Options,
     Authentication,
     Fragment,
@@ -44,8 +44,21 @@ enum Step {
     Pass { next: u8, at: usize },
 }
 
+const IPV4_MIN_HEADER_LEN: usize = 20;
+
+const IPV4_PROTOCOL_UDP: u8 = 17;
+
+// The reserved flag, MF and a fragment offset all leave the UDP source in doubt; DF does not.
+const IPV4_AMBIGUOUS_FRAGMENT_MASK: u16 = 0xbfff;
+
+const IPV6_HEADER_LEN: usize = 40;
+
+const IPV6_FRAGMENT_HEADER_LEN: usize = 8;
+
 // At most so many extension headers are passed.
 const MAX_IPV6_EXTENSION_HEADERS: u8 = 4;
+
+const UDP_HEADER_LEN: usize = 8;
 
 // The answer before the walk, and of every IPv4 packet: no header is passed.
 fn stopped(disposition: PacketEndpointDisposition) -> PacketReading
@@ -70,7 +83,7 @@ fn past(at: usize, len: usize, end: usize) -> bool
 fn udp(packet: &[u8], port: u16, end: usize, at: usize) -> PacketEndpointDisposition
     ensures { λ r. ⌜ dispositionNumber r ≡ udpOf (now (packet .entry)) port end at ⌝ }
 {
-    if past(at, 8, end) {
+    if past(at, UDP_HEADER_LEN, end) {
         return PacketEndpointDisposition::Indeterminate;
     }
     if octets::get_u16_be(packet, at) == port {
@@ -90,7 +103,7 @@ fn sort(next: u8) -> HeaderClass
         // UDP
         17 => HeaderClass::Udp,
         // TCP, ESP, ICMPv6, no next header
-        6 | 50 | 58 | 59 => HeaderClass::Elsewhere,
+        6 | 50 | 58 | 59 => HeaderClass::NotUdp,
         // hop-by-hop options, routing, destination options
         0 | 43 | 60 => HeaderClass::Options,
         51 => HeaderClass::Authentication,
@@ -124,7 +137,7 @@ fn pass(packet: &[u8], end: usize, at: usize, len: usize) -> Step
     }
 }
 
-// A header whose second byte counts units of `unit` bytes, less `uncounted` of them.
+// A header whose second byte gives its length in units of `unit` bytes, of which `uncounted` are not counted.
 fn counted(
     packet: &[u8],
     end: usize,
@@ -143,17 +156,17 @@ fn counted(
     pass(packet, end, at, unit * (n + uncounted))
 }
 
-// A Fragment header: offset, reserved bits and M leave no doubt of the source only where all are zero.
+// A Fragment header. Its offset, its reserved bits and M leave the UDP source in doubt unless all are zero.
 fn fragment(packet: &[u8], end: usize, allowance: u8, at: usize) -> Step
     ensures { λ r. ⌜ outcomeOf at r ≡ fragmentOf (now (packet .entry)) end allowance at ⌝ }
 {
-    if barred(allowance, at, 8, end) {
+    if barred(allowance, at, IPV6_FRAGMENT_HEADER_LEN, end) {
         return Step::Stop(PacketEndpointDisposition::Indeterminate);
     }
     if octets::get_u16_be(packet, at + 2) != 0 {
         return Step::Stop(PacketEndpointDisposition::Indeterminate);
     }
-    pass(packet, end, at, 8)
+    pass(packet, end, at, IPV6_FRAGMENT_HEADER_LEN)
 }
 
 // One header of the chain: the one of value `next` at `at`.
@@ -163,7 +176,7 @@ fn take_step(packet: &[u8], port: u16, end: usize, allowance: u8, next: u8, at: 
     let class = sort(next);
     match class {
         HeaderClass::Udp => Step::Stop(udp(packet, port, end, at)),
-        HeaderClass::Elsewhere => Step::Stop(PacketEndpointDisposition::Unrelated),
+        HeaderClass::NotUdp => Step::Stop(PacketEndpointDisposition::Unrelated),
         HeaderClass::Options => counted(packet, end, allowance, at, 8, 1),
         HeaderClass::Authentication => counted(packet, end, allowance, at, 4, 2),
         HeaderClass::Fragment => fragment(packet, end, allowance, at),
@@ -171,6 +184,7 @@ fn take_step(packet: &[u8], port: u16, end: usize, allowance: u8, next: u8, at: 
     }
 }
 
+// The dispositions by number, as the walk hands them back.
 fn number(disposition: PacketEndpointDisposition) -> u8
     ensures { λ r. ⌜ (r ≡ dispositionNumber disposition) × (r ≤ 2) ⌝ }
 {
@@ -192,10 +206,11 @@ fn disposition_of(number: u8) -> PacketEndpointDisposition
     }
 }
 
-// The chain from `at` on: after a header, the rest is read with an allowance one smaller. The headers passed are added to `headers`.
+// The chain from `at` on: after a header, the rest of it is read with an allowance one smaller. Each header passed is added to
+// `headers`.
 //
-// The answer is the disposition's number, and the packet is lent by a reference to it: with nothing but numbers and plain
-// references handed on, the compiler makes a loop of the last call.
+// The answer is the disposition's number, and the packet's slice stands behind a reference: a call then hands on nothing but
+// numbers and plain references, and the compiler makes a loop of it.
 fn walk(
     packet: &&[u8],
     port: u16,
@@ -228,8 +243,8 @@ fn same_ipv4(packet: &[u8], address: &[u8]) -> bool
     octets::get_u32_le(packet, 12) == octets::get_u32_le(address, 0)
 }
 
-// The same of an IPv6 packet's source, which begins at 8, as two numbers. Called from one place only, so that the compiler puts it
-// there, behind the test of the packet's length, and the readers' tests fold away.
+// The same of an IPv6 packet's source, which begins at 8, as two numbers. It is called from one place only: the compiler puts it
+// there, behind the test of the packet's length, and the readers' own tests fold away.
 fn same_ipv6(packet: &[u8], address: &[u8]) -> bool
     ensures { λ r. ⌜ r ≡ sameOctets (source6 (now (packet .entry))) (octetsAt (now (address .entry)) 0 16) ⌝ }
 {
@@ -247,29 +262,29 @@ fn same_ipv6(packet: &[u8], address: &[u8]) -> bool
 fn ipv4(packet: &[u8], endpoint: ProtectedEndpoint) -> PacketReading
     ensures { λ r. ⌜ answerOf r ≡ ipv4Of (now (packet .entry)) endpoint ⌝ }
 {
-    let address = endpoint.address;
     let port = endpoint.port;
-    if packet.len() < 20 {
+    let len = packet.len();
+    if len < IPV4_MIN_HEADER_LEN {
         return stopped(PacketEndpointDisposition::Indeterminate);
     }
     let size = 4 * ((octets::get_u8(packet, 0) % 16) as usize);
-    if size < 20 {
+    if size < IPV4_MIN_HEADER_LEN {
         return stopped(PacketEndpointDisposition::Indeterminate);
     }
-    if !same_ipv4(packet, &address) {
+    if !same_ipv4(packet, &endpoint.address) {
         return stopped(PacketEndpointDisposition::Unrelated);
     }
     let total = octets::get_u16_be(packet, 2) as usize;
     if total < size {
         return stopped(PacketEndpointDisposition::Indeterminate);
     }
-    if packet.len() < total {
+    if len < total {
         return stopped(PacketEndpointDisposition::Indeterminate);
     }
-    if octets::get_u8(packet, 9) != 17 {
+    if octets::get_u8(packet, 9) != IPV4_PROTOCOL_UDP {
         return stopped(PacketEndpointDisposition::Unrelated);
     }
-    if octets::get_u16_be(packet, 6) & 0xbfff != 0 {
+    if octets::get_u16_be(packet, 6) & IPV4_AMBIGUOUS_FRAGMENT_MASK != 0 {
         return stopped(PacketEndpointDisposition::Indeterminate);
     }
     stopped(udp(packet, port, total, size))
@@ -278,20 +293,20 @@ fn ipv4(packet: &[u8], endpoint: ProtectedEndpoint) -> PacketReading
 fn ipv6(packet: &[u8], endpoint: ProtectedEndpoint) -> PacketReading
     ensures { λ r. ⌜ answerOf r ≡ ipv6Of (now (packet .entry)) endpoint ⌝ }
 {
-    let address = endpoint.address;
     let port = endpoint.port;
-    if packet.len() < 40 {
+    let len = packet.len();
+    if len < IPV6_HEADER_LEN {
         return stopped(PacketEndpointDisposition::Indeterminate);
     }
-    if !same_ipv6(packet, &address) {
+    if !same_ipv6(packet, &endpoint.address) {
         return stopped(PacketEndpointDisposition::Unrelated);
     }
     let payload = octets::get_u16_be(packet, 4) as usize;
     if payload == 0 {
         return stopped(PacketEndpointDisposition::Indeterminate);
     }
-    let end = 40 + payload;
-    if packet.len() < end {
+    let end = IPV6_HEADER_LEN + payload;
+    if len < end {
         return stopped(PacketEndpointDisposition::Indeterminate);
     }
     let next = octets::get_u8(packet, 6);
@@ -302,7 +317,7 @@ fn ipv6(packet: &[u8], endpoint: ProtectedEndpoint) -> PacketReading
         end,
         MAX_IPV6_EXTENSION_HEADERS,
         next,
-        40,
+        IPV6_HEADER_LEN,
         &mut headers,
     );
     let disposition = disposition_of(answer);
@@ -312,20 +327,21 @@ fn ipv6(packet: &[u8], endpoint: ProtectedEndpoint) -> PacketReading
     }
 }
 
-// An endpoint of another family than the packet's: none of its packets, if there is such a family.
+// The endpoint is of another family than the packet: the packet is not its own, if it is of any family at all.
 fn foreign(family: u8) -> PacketReading
-    ensures { λ r. ⌜ answerOf r ≡ cond (known family) (stop 0 1) (stop 0 2) ⌝ }
+    ensures { λ r. ⌜ answerOf r ≡ cond (known family) (stop 0 unrelated) (stop 0 indeterminate) ⌝ }
 {
-    if family == 4 {
+    if family == ProtectedEndpoint::IPV4 {
         stopped(PacketEndpointDisposition::Unrelated)
-    } else if family == 6 {
+    } else if family == ProtectedEndpoint::IPV6 {
         stopped(PacketEndpointDisposition::Unrelated)
     } else {
         stopped(PacketEndpointDisposition::Indeterminate)
     }
 }
 
-// Reads the packet's source against the endpoint.
+// Whether the packet comes from the endpoint. The endpoint need not be sound: spare address bytes are not looked at, and port 0 is
+// compared like any other.
 pub fn classify_l3_udp_source(packet: &[u8], endpoint: ProtectedEndpoint) -> PacketReading
     ensures { λ r. ⌜ answerOf r ≡ classifyOf (now (packet .entry)) endpoint ⌝ }
 {
@@ -335,14 +351,14 @@ pub fn classify_l3_udp_source(packet: &[u8], endpoint: ProtectedEndpoint) -> Pac
     }
     match octets::get_u8(packet, 0) / 16 {
         4 => {
-            if family == 4 {
+            if family == ProtectedEndpoint::IPV4 {
                 ipv4(packet, endpoint)
             } else {
                 foreign(family)
             }
         }
         6 => {
-            if family == 6 {
+            if family == ProtectedEndpoint::IPV6 {
                 ipv6(packet, endpoint)
             } else {
                 foreign(family)

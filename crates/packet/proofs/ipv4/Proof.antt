@@ -24,7 +24,7 @@ returns-3 : tie.Need-returns-3
 unfolding ipv4Head
 returns-3 c =
     let source = c .before in
-    let size = source .before .before .before in
+    let size = source .before .before .before .before .before in
     let length = size .before .before in
     simp (le-ltb _ _ (length .if1 .left), ← size .before .get-u8 .ensures, le-ltb _ _ (size .if2 .left), ← source .before .same-ipv4 .ensures, source .if3 .taken) (c .stopped3 .ensures)
 
@@ -33,7 +33,7 @@ unfolding ipv4Head
 returns-4 c =
     let total = c .before in
     let source = total .before .before in
-    let size = source .before .before .before in
+    let size = source .before .before .before .before .before in
     let length = size .before .before in
     simp (le-ltb _ _ (length .if1 .left), ← size .before .get-u8 .ensures, le-ltb _ _ (size .if2 .left), ← source .before .same-ipv4 .ensures, source .if3 .left, ← total .before .get-u16-be .ensures, lt-ltb _ _ (total .if4 .taken)) (c .stopped4 .ensures)
 
@@ -43,7 +43,7 @@ returns-5 c =
     let room = c .before in
     let total = room .before in
     let source = total .before .before in
-    let size = source .before .before .before in
+    let size = source .before .before .before .before .before in
     let length = size .before .before in
     simp (le-ltb _ _ (length .if1 .left), ← size .before .get-u8 .ensures, le-ltb _ _ (size .if2 .left), ← source .before .same-ipv4 .ensures, source .if3 .left, ← total .before .get-u16-be .ensures, le-ltb _ _ (total .if4 .left), lt-ltb _ _ (room .if5 .taken)) (c .stopped5 .ensures)
 
@@ -54,7 +54,7 @@ returns-6 c =
     let room = protocol .before .before in
     let total = room .before in
     let source = total .before .before in
-    let size = source .before .before .before in
+    let size = source .before .before .before .before .before in
     let length = size .before .before in
     simp (le-ltb _ _ (length .if1 .left), ← size .before .get-u8 .ensures, le-ltb _ _ (size .if2 .left), ← source .before .same-ipv4 .ensures, source .if3 .left, ← total .before .get-u16-be .ensures, le-ltb _ _ (total .if4 .left), le-ltb _ _ (room .if5 .left), ← protocol .before .get-u82 .ensures, ne-eqb _ _ (protocol .if6 .taken)) (c .stopped6 .ensures)
 
@@ -66,7 +66,7 @@ returns-7 c =
     let room = protocol .before .before in
     let total = room .before in
     let source = total .before .before in
-    let size = source .before .before .before in
+    let size = source .before .before .before .before .before in
     let length = size .before .before in
     simp (le-ltb _ _ (length .if1 .left), ← size .before .get-u8 .ensures, le-ltb _ _ (size .if2 .left), ← source .before .same-ipv4 .ensures, source .if3 .left, ← total .before .get-u16-be .ensures, le-ltb _ _ (total .if4 .left), le-ltb _ _ (room .if5 .left), ← protocol .before .get-u82 .ensures, eq-eqb _ _ (protocol .if6 .left), ← fragment .before .get-u16-be2 .ensures, ne-eqb _ _ (fragment .if7 .taken)) (c .stopped7 .ensures)
 
@@ -78,7 +78,7 @@ returns-8 c =
     let room = protocol .before .before in
     let total = room .before in
     let source = total .before .before in
-    let size = source .before .before .before in
+    let size = source .before .before .before .before .before in
     let length = size .before .before in
     simp (le-ltb _ _ (length .if1 .left), ← size .before .get-u8 .ensures, le-ltb _ _ (size .if2 .left), ← source .before .same-ipv4 .ensures, source .if3 .left, ← total .before .get-u16-be .ensures, le-ltb _ _ (total .if4 .left), le-ltb _ _ (room .if5 .left), ← protocol .before .get-u82 .ensures, eq-eqb _ _ (protocol .if6 .left), ← fragment .before .get-u16-be2 .ensures, eq-eqb _ _ (fragment .if7 .left)) (c .stopped8 .ensures ∙ ap (stop 0) (c .before .udp .ensures))
 
@@ -93,7 +93,6 @@ ipv4-spec =
     (λ c. search needs)
     (λ c κs. search needs)
     returns-2
-    (λ c. search needs)
     (λ c κs. search needs)
     (λ c κs. search needs)
     returns-3

@@ -16,7 +16,7 @@ returns-2 : tie.Need-returns-2
 unfolding ipv6Head
 returns-2 c =
     let source = c .before in
-    let length = source .before .before .before in
+    let length = source .before .before .before .before .before in
     simp (le-ltb _ _ (length .if1 .left), ← source .before .same-ipv6 .ensures, source .if2 .taken) (c .stopped2 .ensures)
 
 returns-3 : tie.Need-returns-3
@@ -24,7 +24,7 @@ unfolding ipv6Head
 returns-3 c =
     let payload = c .before in
     let source = payload .before .before in
-    let length = source .before .before .before in
+    let length = source .before .before .before .before .before in
     simp (le-ltb _ _ (length .if1 .left), ← source .before .same-ipv6 .ensures, source .if2 .left, ← payload .before .get-u16-be .ensures, eq-eqb _ _ (payload .if3 .taken)) (c .stopped3 .ensures)
 
 returns-4 : tie.Need-returns-4
@@ -33,7 +33,7 @@ returns-4 c =
     let end = c .before in
     let payload = end .before in
     let source = payload .before .before in
-    let length = source .before .before .before in
+    let length = source .before .before .before .before .before in
     simp (le-ltb _ _ (length .if1 .left), ← source .before .same-ipv6 .ensures, source .if2 .left, ← payload .before .get-u16-be .ensures, ne-eqb _ _ (payload .if3 .left), lt-ltb _ _ (end .if4 .taken)) (c .stopped4 .ensures)
 
 returns-5 : tie.Need-returns-5
@@ -44,7 +44,7 @@ returns-5 c =
     let end = next .before in
     let payload = end .before in
     let source = payload .before .before in
-    let length = source .before .before .before in
+    let length = source .before .before .before .before .before in
     simp (le-ltb _ _ (length .if1 .left), ← source .before .same-ipv6 .ensures, source .if2 .left, ← payload .before .get-u16-be .ensures, ne-eqb _ _ (payload .if3 .left), le-ltb _ _ (end .if4 .left), ← next .get-u8 .ensures) (answered _ _ _ (c .disposition-of .ensures ∙ walked .walk .ensures .disposition) (walked .walk .ensures .headers))
 
 pub ipv6-spec : {M : Type 1} → statement M
@@ -53,7 +53,6 @@ ipv6-spec =
     (tie.spec
     (λ c κs. search needs)
     returns
-    (λ c. search needs)
     (λ c κs. search needs)
     (λ c κs. search needs)
     returns-2

@@ -1,0 +1,10 @@
+-- `stopped`: the reading of a disposition and no header is the definition's. Assumes nothing.
+use mathlib.Core.Path.{refl}
+use Rattle.packet.proofs.stopped.Statement.{statement}
+use Rattle.packet.proofs.stopped.Tie as tie
+
+returns : tie.Need-returns
+returns c = refl
+
+pub stopped-spec : {M : Type 1} → statement M
+stopped-spec = tie.close (tie.spec returns)
