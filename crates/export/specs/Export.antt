@@ -1,0 +1,7 @@
+-- Answers as single numbers, for programs in other languages. Assumes nothing.
+use Prim.Native.Nat.{ℕ, _+_, _*_}
+use Rattle.packet.specs.Reading.{Answer}
+
+-- the disposition's number, and 256 for each extension header passed
+abbrev pub readingNumber : Answer → ℕ
+readingNumber r = r .disposition + 256 * r .headers

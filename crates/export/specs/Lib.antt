@@ -1,0 +1,2 @@
+-- The definitions that the contracts of `export` cite. Assumes nothing.
+pub mod Export

@@ -1,0 +1,44 @@
+// What programs in other languages link: `rt staticlib export` writes target/staticlib/libexport.a, for x86-64. A `&[u8]` passes as a
+// pointer and a length, a reference to an array as a pointer.
+use endpoint::ProtectedEndpoint;
+use packet::PacketEndpointDisposition;
+ghost use mathlib.Core.Path.{_≡_};
+ghost use Prim.Native.Nat.{_≤_};
+ghost use Rattle.packet.specs.Answers.{dispositionNumber};
+ghost use Rattle.packet.specs.Reading.{classifyOf};
+ghost use Rattle.export.specs.Export.{readingNumber};
+
+// An address in network order; an IPv4 one stands in the first four bytes.
+pub type Address = [u8; 16];
+
+fn number(disposition: PacketEndpointDisposition) -> u32
+    ensures { λ r. ⌜ (r ≡ dispositionNumber disposition) × (r ≤ 2) ⌝ }
+{
+    match disposition {
+        PacketEndpointDisposition::Protected => 0,
+        PacketEndpointDisposition::Unrelated => 1,
+        PacketEndpointDisposition::Indeterminate => 2,
+    }
+}
+
+// Reads a packet's source against an endpoint: 0 Protected, 1 Unrelated or 2 Indeterminate, and 256 for each extension header passed.
+#[no_mangle]
+pub extern "C" fn threadwicket_classify(
+    packet: &[u8],
+    family: u8,
+    address: &Address,
+    port: u16,
+) -> u32
+    ensures { λ r. ⌜ r ≡ readingNumber (classifyOf (now (packet .entry)) (record { family = family; address = now (address .entry); port = port })) ⌝ }
+{
+    let reading = packet::classify_l3_udp_source(
+        packet,
+        ProtectedEndpoint {
+            family,
+            address: *address,
+            port,
+        },
+    );
+    let disposition = reading.disposition;
+    number(disposition) + 256 * (reading.headers as u32)
+}

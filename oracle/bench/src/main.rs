@@ -1,0 +1,61 @@
+//! Calls a proved function, or its counterpart in Rust, so and so often on one input, both behind the same shape of function.
+//!
+//!     bench cases             the cases by number; fails where the two sides answer differently
+//!     bench SIDE CASE N       SIDE is `proved` or `rust`: the sum of N answers
+//!
+//! `oracle/bench/run` counts the instructions of 100,000 calls by callgrind, as the difference of two runs.
+
+mod classify;
+
+use std::hint::black_box;
+use std::process::ExitCode;
+
+/// A case: its name, and each side as a function that is called once.
+pub struct Case {
+    pub name: &'static str,
+    pub proved: Box<dyn Fn() -> u32>,
+    pub rust: Box<dyn Fn() -> u32>,
+}
+
+fn cases() -> Vec<Case> {
+    classify::cases()
+}
+
+fn list(cases: &[Case]) -> ExitCode {
+    for (number, case) in cases.iter().enumerate() {
+        let (proved, rust) = ((case.proved)(), (case.rust)());
+        println!("{number}\t{}", case.name);
+        if proved != rust {
+            eprintln!("bench: {}: proved {proved}, Rust {rust}", case.name);
+            return ExitCode::FAILURE;
+        }
+    }
+    ExitCode::SUCCESS
+}
+
+fn repeat(call: &dyn Fn() -> u32, times: u64) {
+    let mut sum = 0u64;
+    for _ in 0..times {
+        sum += u64::from(black_box(call)());
+    }
+    println!("{sum}");
+}
+
+fn main() -> ExitCode {
+    let words: Vec<String> = std::env::args().skip(1).collect();
+    let words: Vec<&str> = words.iter().map(String::as_str).collect();
+    let cases = cases();
+    let chosen = |number: &str, times: &str| Some((cases.get(number.parse::<usize>().ok()?)?, times.parse::<u64>().ok()?));
+    match words.as_slice() {
+        ["cases"] => return list(&cases),
+        [side @ ("proved" | "rust"), number, times] => {
+            if let Some((case, times)) = chosen(number, times) {
+                repeat(if *side == "proved" { &case.proved } else { &case.rust }, times);
+                return ExitCode::SUCCESS;
+            }
+        }
+        _ => {}
+    }
+    eprintln!("usage: bench cases | bench proved|rust CASE N");
+    ExitCode::from(2)
+}
