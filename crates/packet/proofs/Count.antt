@@ -1,30 +1,38 @@
--- Document 01: "the number of extension headers passed, 0 to 4". A walk passes at most as many headers as its allowance has, by
--- induction on the allowance, and every other answer has the count 0. Assumes nothing.
-use Prim.Native.Nat.{ℕ, _≤_}
+-- Document 01: "the number of extension headers passed, 0 to 4 .. IPv4 gives 0, as does every answer before the walk". A walk passes
+-- at most as many headers as its allowance has, by induction on the allowance; what stops before it has passed none. Assumes nothing.
+use Prim.Native.Nat.{ℕ, zero, suc, _≤_}
 use mathlib.Core.Path.{_≡_, refl}
-use mathlib.Core.Bool.{Bool, true, false, cond, not, _||_}
+use mathlib.Core.Bool.{not, _||_}
 use mathlib.Core.List.{List}
 use native.Mathlib.Omega.{arith}
 use lib.ListN.{length}
 use lib.Dec.{eqb}
 use Rattle.endpoint.specs.declared.ProtectedEndpoint.{ProtectedEndpoint}
 use Rattle.packet.specs.Rfc791.{version}
-use Rattle.packet.specs.Reading.{Answer, Outcome, settled, onward, follow, stop, ipv4Head, ipv4Of, ipv6Head, ipv6Of, known, classifyOf}
+use Rattle.packet.specs.Reading.{Answer, Outcome, settled, onward, follow, stop, sortOf, udpOf, stepOf, walkOf, ipv4Head, ipv4Of, ipv6Head, ipv6Of, known, classifyOf}
 use Rattle.packet.proofs.Laws.{cond-all, walk-count}
 
 abbrev Within : ℕ → Answer → Type 0
 Within n r = r .headers ≤ n
 
--- where an outcome is followed, what stops there has no header
 followed : (n : ℕ) (o : Outcome) (k : ℕ → ℕ → Answer) → ((m c : ℕ) → Within n (k m c)) → Within n (follow stop o k)
 followed n (settled c d) k h = omega arith
 followed n (onward m c) k h = h m c
 
 module _ (s : List ℕ) (p : ProtectedEndpoint) where
-  pub ipv4-count : Within 0 (ipv4Of s p)
-  ipv4-count = followed 0 (ipv4Head s (p .address)) _ (λ m c. omega arith)
+  pub ipv4-count : ipv4Of s p .headers ≡ 0
+  ipv4-count = let h : Within 0 (ipv4Of s p) = followed 0 (ipv4Head s (p .address)) _ (λ m c. omega arith) in omega arith
 
-  pub ipv6-count : Within 4 (ipv6Of s p)
+  pub before-walk-count : (c d : ℕ) → ipv6Head s (p .address) ≡ settled c d → ipv6Of s p .headers ≡ 0
+  before-walk-count c d e = rw e
+
+  -- UDP is not counted: it needs no allowance, so that four headers and then UDP are good
+  pub udp-uncounted : (e a c : ℕ) → walkOf s (p .port) e a 17 c ≡ stop c (udpOf s (p .port) e c)
+  unfolding walkOf stepOf sortOf
+  udp-uncounted e zero c = refl
+  udp-uncounted e (suc a) c = refl
+
+  pub ipv6-count : ipv6Of s p .headers ≤ 4
   ipv6-count = followed 4 (ipv6Head s (p .address)) _ (walk-count s (p .port) _ 4)
 
   pub count-at-most-4 : classifyOf s p .headers ≤ 4

@@ -2,7 +2,7 @@
 -- that the step makes before it reads, so packets that agree there take the same step; a walk is its steps, by induction on the
 -- allowance. Past the end every byte reads as 0, so the places inside the packet suffice. Assumes nothing.
 use Prim.Native.Nat.{ℕ, zero, suc, _+_, _*_, _≤_}
-use mathlib.Core.Path.{_≡_, refl, sym, ap, _∙_}
+use mathlib.Core.Path.{_≡_, refl, ap}
 use mathlib.Core.Bool.{Bool, true, false, cond, not, _||_}
 use mathlib.Core.List.{List, [], _∷_, _++_}
 use native.Mathlib.Omega.{arith}

@@ -12,6 +12,10 @@ use lib.ListN.{getD}
 use lib.Dec.{ltb, eqb}
 use borrow.Author.Tests.{eq-eqb, ne-eqb, eqb-true, eqb-false, lt-ltb, le-ltb, ltb-true, ltb-false}
 use Rattle.octets.specs.Octets.{Bytes, octetsAt, le, sameOctets}
+use Rattle.packet.specs.declared.PacketEndpointDisposition.{PacketEndpointDisposition}
+use Rattle.packet.specs.declared.Step.{Step}
+use Rattle.packet.specs.declared.Step.the-variants.{Stop, Pass}
+use Rattle.packet.specs.Answers.{dispositionNumber, outcomeOf}
 use Rattle.packet.specs.Reading.{Answer, Outcome, settled, onward, follow, sortOf, byClass, countedOf, fragmentOf, stepOf, stop, passed, walkOf}
 
 -- ---- the sorting, as a `match` with its groups tells it
@@ -145,16 +149,18 @@ module _ (s : List ℕ) (port e : ℕ) where
       go (settled c′ d) h = omega arith
       go (onward n′ c′) h = omega (arith, h n′ c′)
 
-  pub walk-stops : (a n c c′ d : ℕ) → stepOf s port e a n c ≡ settled c′ d → walkOf s port e a n c ≡ stop c′ d
+  -- where the code's step stops, the walk is over; where it passes a header, there was an allowance, and the walk is the rest's
+  pub walk-stops : (a n c : ℕ) (r : Step) (d : PacketEndpointDisposition) → outcomeOf c r ≡ stepOf s port e a n c → r ≡ Stop d →
+      walkOf s port e a n c ≡ stop c (dispositionNumber d)
   unfolding walkOf
-  walk-stops zero n c c′ d q = simp q
-  walk-stops (suc a) n c c′ d q = simp q
+  walk-stops zero n c r d p q = rw (← p, q)
+  walk-stops (suc a) n c r d p q = rw (← p, q)
 
-  pub walk-on : (a n c n′ c′ : ℕ) → stepOf s port e a n c ≡ onward n′ c′ →
+  pub walk-on : (a n c : ℕ) (r : Step) (n′ c′ : ℕ) → outcomeOf c r ≡ stepOf s port e a n c → r ≡ Pass n′ c′ →
       (0 < a) × (walkOf s port e a n c ≡ passed (walkOf s port e (a - 1) n′ c′))
   unfolding walkOf
-  walk-on zero n c n′ c′ q = absurd (none-stops n c n′ c′ q)
-  walk-on (suc a) n c n′ c′ q = (omega arith, simp (q, sub-one))
+  walk-on zero n c r n′ c′ p q = absurd (none-stops n c n′ c′ (sym p ∙ ap (outcomeOf c) q))
+  walk-on (suc a) n c r n′ c′ p q = (omega arith, rw (← p, q, sub-one))
 
 -- an answer from its parts
 pub answered : (r : Answer) (d h : ℕ) → d ≡ r .disposition → h ≡ 0 + r .headers → record { disposition = d; headers = h } ≡ r

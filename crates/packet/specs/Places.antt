@@ -32,12 +32,9 @@ headerPlaces e a c r l = cond (eqb a 0 || ltb e (c + r)) [] l
 unfoldable pub stepPlaces : ℕ → ℕ → ℕ → ℕ → List ℕ
 stepPlaces e a n c =
     byClass (sortOf n)
-    (udpPlaces e c)
-    []
-    (headerPlaces e a c 2 (span c 2))
-    (headerPlaces e a c 2 (span c 2))
-    (headerPlaces e a c 8 (c ∷ span (c + 2) 2))
-    []
+    (udpPlaces e c) []
+    (headerPlaces e a c 2 (span c 2)) (headerPlaces e a c 2 (span c 2))
+    (headerPlaces e a c 8 (c ∷ span (c + 2) 2)) []
 
 unfoldable pub walkPlaces : List ℕ → ℕ → ℕ → ℕ → ℕ → ℕ → List ℕ
 walkPlaces s port e zero n c = stepPlaces e zero n c
@@ -55,8 +52,7 @@ unfoldable pub named : List ℕ → ProtectedEndpoint → List ℕ
 named s p =
     span 0 1 ++
     cond (eqb (ip4.version s) 4) (span 2 2 ++ (span 6 2 ++ (span 9 1 ++ (span 12 4 ++ ipv4Rest s p))))
-    (cond (eqb (ip4.version s) 6) (span 4 3 ++ (span 8 16 ++ ipv6Rest s p))
-    [])
+    (cond (eqb (ip4.version s) 6) (span 4 3 ++ (span 8 16 ++ ipv6Rest s p)) [])
 
 abbrev pub places : List ℕ → ProtectedEndpoint → List ℕ
 places s p = inside (length s) (named s p)

@@ -1,6 +1,6 @@
 -- Document 01, 'Reading a packet': its decisions, in its order. Assumes nothing.
 use Prim.Native.Nat.{ℕ, zero, suc, _+_}
-use mathlib.Core.Bool.{Bool, true, false, cond, not, _||_}
+use mathlib.Core.Bool.{Bool, false, cond, not, _||_}
 use mathlib.Core.List.{List, [], _∷_}
 use lib.ListN.{length}
 use lib.Dec.{ltb, eqb}
@@ -53,8 +53,7 @@ sortOf n =
     (cond (among n (6 ∷ 50 ∷ 58 ∷ 59 ∷ [])) 1
     (cond (among n (0 ∷ 43 ∷ 60 ∷ [])) 2
     (cond (eqb n 51) 3
-    (cond (eqb n 44) 4
-    5))))
+    (cond (eqb n 44) 4 5))))
 
 abbrev pub byClass : {A : Type 0} → ℕ → A → A → A → A → A → A → A
 byClass k p u o w f x = cond (eqb k 0) p (cond (eqb k 1) u (cond (eqb k 2) o (cond (eqb k 3) w (cond (eqb k 4) f x))))
@@ -88,7 +87,7 @@ stepOf s port e a n c =
     (fragmentOf s e a c)
     (settled c indeterminate)
 
--- the walk: after a header, the rest of the chain is read with an allowance one smaller
+-- the walk: after a header, the rest of the chain is read with an allowance one smaller; with none left no step goes on
 unfoldable pub walkOf : List ℕ → ℕ → ℕ → ℕ → ℕ → ℕ → Answer
 walkOf s port e zero n c = follow stop (stepOf s port e zero n c) (λ _ c′. stop c′ indeterminate)
 walkOf s port e (suc a) n c = follow stop (stepOf s port e (suc a) n c) (λ n′ c′. passed (walkOf s port e a n′ c′))

@@ -3,7 +3,6 @@
 use Prim.Native.Nat.{ℕ, _<_}
 use mathlib.Core.Path.{sym, ap, _∙_}
 use native.Mathlib.Omega.{arith}
-use Rattle.packet.specs.Answers.{outcomeOf}
 use Rattle.packet.proofs.Laws.{walk-stops, walk-on}
 use borrow.Author.Needs.{needs}
 use borrow.Fn.Kinds.{In}
@@ -42,28 +41,27 @@ pub +walk-spec : {M : Type 1} → statement M
     (λ c. search needs)
     (λ c.
     let step = c .before .before .before .before in
-    let start = step .before .before in
-    let on = walk-on _ _ _ _ _ _ _ _ (sym (step .take-step .ensures) ∙ ap (outcomeOf (start .args .at)) (c .before .before .found2 .given .1)) in
-    omega (arith, on .0, start .pre .1))
+    let on = walk-on _ _ _ _ _ _ _ _ _ (step .take-step .ensures) (c .before .before .found2 .given .1) in
+    omega (arith, on .0, step .before .before .pre .1))
     (λ c.
     let step = c .before .before .before .before in
-    walk-on _ _ _ _ _ _ _ _ (sym (step .take-step .ensures) ∙ ap (outcomeOf (step .before .before .args .at)) (c .before .before .found2 .given .1)) .0)
+    walk-on _ _ _ _ _ _ _ _ _ (step .take-step .ensures) (c .before .before .found2 .given .1) .0)
     (λ c κs.
     let step = c .before .before .before .before .before in
     let start = step .before .before in
-    let on = walk-on _ _ _ _ _ _ _ _ (sym (step .take-step .ensures) ∙ ap (outcomeOf (start .args .at)) (c .before .before .before .found2 .given .1)) in
+    let on = walk-on _ _ _ _ _ _ _ _ _ (step .take-step .ensures) (c .before .before .before .found2 .given .1) in
     (omega (arith, on .0, start .pre .0), omega (arith, on .0, start .pre .1)))
     (λ c.
     let step = c .before .before .before .before in
-    let whole = walk-stops _ _ _ _ _ _ _ _ (sym (step .take-step .ensures) ∙ ap (outcomeOf (step .before .before .args .at)) (c .before .before .found .given .1)) in
+    let over = walk-stops _ _ _ _ _ _ _ _ (step .take-step .ensures) (c .before .before .found .given .1) in
     record {
-      disposition = c .number .ensures .0 ∙ sym (ap (λ r. r .disposition) whole);
-      headers = omega (arith, ap (λ r. r .headers) whole);
+      disposition = c .number .ensures .0 ∙ sym (ap (λ r. r .disposition) over);
+      headers = omega (arith, ap (λ r. r .headers) over);
       bound = c .number .ensures .1;
     })
     (λ c.
     let step = c .before .before .before .before .before .before in
-    let on = walk-on _ _ _ _ _ _ _ _ (sym (step .take-step .ensures) ∙ ap (outcomeOf (step .before .before .args .at)) (c .before .before .before .before .found2 .given .1)) in
+    let on = walk-on _ _ _ _ _ _ _ _ _ (step .take-step .ensures) (c .before .before .before .before .found2 .given .1) in
     record {
       disposition = c .walk .ensures .disposition ∙ sym (ap (λ r. r .disposition) (on .1));
       headers = omega (arith, c .walk .ensures .headers, ap (λ r. r .headers) (on .1));

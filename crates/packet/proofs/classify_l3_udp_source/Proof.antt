@@ -2,6 +2,7 @@
 -- the family first; an endpoint of another family is `foreign`'s. Assumes nothing.
 use mathlib.Core.Path.{_∙_}
 use mathlib.Core.Bool.{false, not, _||_, or-true}
+use lib.ListN.{length}
 use borrow.Author.Tests.{eq-eqb, ne-eqb}
 use Rattle.packet.specs.Reading.{known, stop, classifyOf}
 use Rattle.packet.proofs.Laws.{either-way, other-way}
@@ -11,7 +12,9 @@ use Rattle.packet.proofs.classify_l3_udp_source.Tie as tie
 
 returns : tie.Need-returns
 unfolding classifyOf
-returns c = simp (eq-eqb _ _ (c .before .if1 .taken), or-true) (c .stopped .ensures)
+returns c =
+    let start = c .before .before .before in
+    simp (eq-eqb (length (start .args .packet .now)) 0 (c .before .if1 .taken), or-true) (c .stopped .ensures)
 
 returns-2 : tie.Need-returns-2
 unfolding classifyOf known
