@@ -8,8 +8,7 @@ use units::DurableFenceToken;
 use units::SocketCookie;
 ghost use mathlib.Core.Path.{_≡_};
 ghost use mathlib.Core.List.{[], _∷_};
-ghost use Prim.Native.Nat.{_<_};
-ghost use Rattle.octets.specs.Layout.{fieldsAt, puts};
+ghost use Rattle.octets.specs.Layout.{puts};
 ghost use Rattle.octets.specs.Codec.{asking, Built, Decoded, Encoded, sound};
 ghost use Rattle.records.specs.CookieValue.{cookieValueRule, cookieValueCodec, keyOf, entryOf, agreeing, pairFields};
 
@@ -50,7 +49,7 @@ fn refused(number: u32) -> CookieValueAnswer
 }
 
 // What the six numbers of the layout give.
-fn from_fields(
+pub(crate) fn from_fields(
     zeros: u32,
     control: u32,
     cookie: u64,
@@ -140,45 +139,36 @@ impl FenceCookieValue {
         rule(0, state.control(), cookie.0, token.0, deadline.0, epoch.0)
     }
 
-    // The record whose fields stand at a place.
-    pub(crate) fn read(s: &[u8], at: usize) -> CookieValueAnswer
-        requires { ⌜ at < 128 ⌝ }
-        ensures { λ r. ⌜ Built cookieValueCodec (fieldsAt (cookieValueCodec .layout) (now (s .entry)) at) (r .number) (r .value) ⌝ }
-    {
-        let zeros = octets::get_u32_le(s, at);
-        let control = octets::get_u32_le(s, at + 4);
-        let cookie = octets::get_u64_le(s, at + 8);
-        let token = octets::get_u64_le(s, at + 16);
-        let deadline = octets::get_u64_le(s, at + 24);
-        let epoch = octets::get_u64_le(s, at + 32);
-        from_fields(zeros, control, cookie, token, deadline, epoch)
-    }
-
     pub fn decode(s: &[u8]) -> CookieValueAnswer
         ensures { λ r. ⌜ Decoded cookieValueCodec (now (s .entry)) (r .number) (r .value) ⌝ }
     {
         if s.len() != FenceCookieValue::LEN {
             return refused(1);
         }
-        FenceCookieValue::read(s, 0)
+        let zeros = octets::get_u32_le(s, 0);
+        let control = octets::get_u32_le(s, 4);
+        let cookie = octets::get_u64_le(s, 8);
+        let token = octets::get_u64_le(s, 16);
+        let deadline = octets::get_u64_le(s, 24);
+        let epoch = octets::get_u64_le(s, 32);
+        from_fields(zeros, control, cookie, token, deadline, epoch)
     }
 
-    // The record's fields, put at a place.
-    pub(crate) fn write(self, out: &mut [u8], at: usize)
-        requires { ⌜ at < 128 ⌝ }
-        ensures { λ r. ⌜ now (out .exit) ≡ puts (cookieValueCodec .layout) (cookieValueCodec .fields self) (now (out .entry)) at ⌝ }
+    // The record's fields, put at the start.
+    fn write(self, out: &mut [u8])
+        ensures { λ r. ⌜ now (out .exit) ≡ puts (cookieValueCodec .layout) (cookieValueCodec .fields self) (now (out .entry)) 0 ⌝ }
     {
         let state = self.state;
         let cookie = self.socket_cookie;
         let token = self.durable_fence_token;
         let deadline = self.deadline_boot_ns;
         let epoch = self.control_epoch;
-        octets::put_u32_le(out, at, 0);
-        octets::put_u32_le(out, at + 4, state.control());
-        octets::put_u64_le(out, at + 8, cookie.0);
-        octets::put_u64_le(out, at + 16, token.0);
-        octets::put_u64_le(out, at + 24, deadline.0);
-        octets::put_u64_le(out, at + 32, epoch.0);
+        octets::put_u32_le(out, 0, 0);
+        octets::put_u32_le(out, 4, state.control());
+        octets::put_u64_le(out, 8, cookie.0);
+        octets::put_u64_le(out, 16, token.0);
+        octets::put_u64_le(out, 24, deadline.0);
+        octets::put_u64_le(out, 32, epoch.0);
     }
 
     pub fn encode(self, out: &mut [u8]) -> u32
@@ -190,7 +180,7 @@ impl FenceCookieValue {
         if out.len() < FenceCookieValue::LEN {
             return 4;
         }
-        self.write(out, 0);
+        self.write(out);
         0
     }
 }

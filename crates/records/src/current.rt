@@ -4,9 +4,8 @@ use units::SocketCookie;
 ghost use mathlib.Core.Path.{_≡_};
 ghost use mathlib.Core.Bool.{not};
 ghost use mathlib.Core.List.{[], _∷_};
-ghost use Prim.Native.Nat.{_<_};
 ghost use lib.Dec.{eqb};
-ghost use Rattle.octets.specs.Layout.{fieldsAt, puts};
+ghost use Rattle.octets.specs.Layout.{puts};
 ghost use Rattle.octets.specs.Codec.{asking, Built, Decoded, Encoded, sound};
 ghost use Rattle.records.specs.Current.{currentRule, currentControl, currentCodec, lifecycleOpen, retirementClosed};
 
@@ -47,7 +46,7 @@ fn refused(number: u32) -> CurrentAnswer
 }
 
 // What the four numbers of the layout give.
-fn from_fields(zeros: u32, control: u32, token: u64, cookie: u64) -> CurrentAnswer
+pub(crate) fn from_fields(zeros: u32, control: u32, token: u64, cookie: u64) -> CurrentAnswer
     ensures { λ r. ⌜ Built currentCodec (zeros ∷ control ∷ token ∷ cookie ∷ []) (r .number) (r .value) ⌝ }
 {
     if rule(zeros, control, token, cookie) {
@@ -153,7 +152,7 @@ impl CurrentFenceToken {
         token.0 != 0 && self.retirement_closed
     }
 
-    fn control(self) -> u32
+    pub(crate) fn control(self) -> u32
         ensures { λ r. ⌜ r ≡ currentControl self ⌝ }
     {
         let token = self.durable_fence_token;
@@ -174,38 +173,29 @@ impl CurrentFenceToken {
         rule(0, self.control(), token.0, cookie.0)
     }
 
-    // The record whose fields stand at a place.
-    pub(crate) fn read(s: &[u8], at: usize) -> CurrentAnswer
-        requires { ⌜ at < 128 ⌝ }
-        ensures { λ r. ⌜ Built currentCodec (fieldsAt (currentCodec .layout) (now (s .entry)) at) (r .number) (r .value) ⌝ }
-    {
-        let zeros = octets::get_u32_le(s, at);
-        let control = octets::get_u32_le(s, at + 4);
-        let token = octets::get_u64_le(s, at + 8);
-        let cookie = octets::get_u64_le(s, at + 16);
-        from_fields(zeros, control, token, cookie)
-    }
-
     pub fn decode(s: &[u8]) -> CurrentAnswer
         ensures { λ r. ⌜ Decoded currentCodec (now (s .entry)) (r .number) (r .value) ⌝ }
     {
         if s.len() != CurrentFenceToken::LEN {
             return refused(1);
         }
-        CurrentFenceToken::read(s, 0)
+        let zeros = octets::get_u32_le(s, 0);
+        let control = octets::get_u32_le(s, 4);
+        let token = octets::get_u64_le(s, 8);
+        let cookie = octets::get_u64_le(s, 16);
+        from_fields(zeros, control, token, cookie)
     }
 
-    // The record's fields, put at a place.
-    pub(crate) fn write(self, out: &mut [u8], at: usize)
-        requires { ⌜ at < 128 ⌝ }
-        ensures { λ r. ⌜ now (out .exit) ≡ puts (currentCodec .layout) (currentCodec .fields self) (now (out .entry)) at ⌝ }
+    // The record's fields, put at the start.
+    fn write(self, out: &mut [u8])
+        ensures { λ r. ⌜ now (out .exit) ≡ puts (currentCodec .layout) (currentCodec .fields self) (now (out .entry)) 0 ⌝ }
     {
         let token = self.durable_fence_token;
         let cookie = self.registered_socket_cookie;
-        octets::put_u32_le(out, at, 0);
-        octets::put_u32_le(out, at + 4, self.control());
-        octets::put_u64_le(out, at + 8, token.0);
-        octets::put_u64_le(out, at + 16, cookie.0);
+        octets::put_u32_le(out, 0, 0);
+        octets::put_u32_le(out, 4, self.control());
+        octets::put_u64_le(out, 8, token.0);
+        octets::put_u64_le(out, 16, cookie.0);
     }
 
     pub fn encode(self, out: &mut [u8]) -> u32
@@ -217,7 +207,7 @@ impl CurrentFenceToken {
         if out.len() < CurrentFenceToken::LEN {
             return 4;
         }
-        self.write(out, 0);
+        self.write(out);
         0
     }
 }

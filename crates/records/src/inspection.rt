@@ -1,12 +1,16 @@
 // An inspection, 128 bytes: the current record, the mutation authority and perhaps a cookie value, as they stood at one moment.
 use crate::cookie_value::FenceCookieValue;
+use crate::current::CurrentAnswer;
 use crate::current::CurrentFenceToken;
 use crate::mutation::FenceMutationAuthority;
+use crate::mutation::MutationAnswer;
 ghost use mathlib.Core.Path.{_≡_};
-ghost use mathlib.Core.List.{[], _∷_};
+ghost use mathlib.Core.List.{[], _∷_, _++_};
 ghost use Rattle.octets.specs.Octets.{octetsAt, le, be, allZero};
 ghost use Rattle.octets.specs.Layout.{fieldsAt, puts, Fit};
 ghost use Rattle.octets.specs.Codec.{Built, Decoded, Encoded, sound};
+ghost use Rattle.records.specs.Current.{currentCodec};
+ghost use Rattle.records.specs.Mutation.{mutationCodec};
 ghost use Rattle.records.specs.CookieValue.{cookieValueCodec};
 ghost use Rattle.records.specs.Inspection.{inspectionMark, headRule, presentFlag, partFields, partNumbers, partCodec, inspection, headLayout, tailLayout, zeroTail, inspectionCodec};
 
@@ -90,17 +94,22 @@ fn tail_is_zero(s: &[u8]) -> bool
     a == 0 && four_zeros(b, c, d, e)
 }
 
-// The forty bytes in the place of an inner entry.
-fn part_is_zero(s: &[u8]) -> bool
-    ensures { λ r. ⌜ r ≡ allZero (fieldsAt (cookieValueCodec .layout) (now (s .entry)) 48) ⌝ }
+fn current_part(s: &[u8]) -> CurrentAnswer
+    ensures { λ r. ⌜ Built currentCodec (fieldsAt (currentCodec .layout) (now (s .entry)) 8) (r .number) (r .value) ⌝ }
 {
-    let zeros = octets::get_u32_le(s, 48);
-    let control = octets::get_u32_le(s, 52);
-    let a = octets::get_u64_le(s, 56);
-    let b = octets::get_u64_le(s, 64);
-    let c = octets::get_u64_le(s, 72);
-    let d = octets::get_u64_le(s, 80);
-    zeros == 0 && (control == 0 && four_zeros(a, b, c, d))
+    let zeros = octets::get_u32_le(s, 8);
+    let control = octets::get_u32_le(s, 12);
+    let token = octets::get_u64_le(s, 16);
+    let cookie = octets::get_u64_le(s, 24);
+    crate::current::from_fields(zeros, control, token, cookie)
+}
+
+fn mutation_part(s: &[u8]) -> MutationAnswer
+    ensures { λ r. ⌜ Built mutationCodec (fieldsAt (mutationCodec .layout) (now (s .entry)) 32) (r .number) (r .value) ⌝ }
+{
+    let generation = octets::get_u64_le(s, 32);
+    let claim = octets::get_u64_le(s, 40);
+    FenceMutationAuthority::new(generation, claim)
 }
 
 fn absent(number: u32) -> PartAnswer
@@ -112,11 +121,18 @@ fn absent(number: u32) -> PartAnswer
     }
 }
 
-// An inner entry under flag 1.
-fn present(s: &[u8]) -> PartAnswer
-    ensures { λ r. ⌜ Built (partCodec 1) (fieldsAt (cookieValueCodec .layout) (now (s .entry)) 48) (r .number) (r .value) ⌝ }
+// The inner entry that six numbers give under flag 1.
+fn present(
+    zeros: u32,
+    control: u32,
+    cookie: u64,
+    token: u64,
+    deadline: u64,
+    epoch: u64,
+) -> PartAnswer
+    ensures { λ r. ⌜ Built (partCodec 1) (zeros ∷ control ∷ cookie ∷ token ∷ deadline ∷ epoch ∷ []) (r .number) (r .value) ⌝ }
 {
-    let read = FenceCookieValue::read(s, 48);
+    let read = crate::cookie_value::from_fields(zeros, control, cookie, token, deadline, epoch);
     if read.number != 0 {
         return absent(2);
     }
@@ -127,22 +143,48 @@ fn present(s: &[u8]) -> PartAnswer
     }
 }
 
-// The inner entry under its flag.
-fn part(s: &[u8]) -> PartAnswer
-    ensures { λ r. ⌜ Built (partCodec (le (octetsAt (now (s .entry)) 6 1))) (fieldsAt (cookieValueCodec .layout) (now (s .entry)) 48) (r .number) (r .value) ⌝ }
+// The inner entry that six numbers give under a flag.
+fn part_of(
+    flag: u8,
+    zeros: u32,
+    control: u32,
+    cookie: u64,
+    token: u64,
+    deadline: u64,
+    epoch: u64,
+) -> PartAnswer
+    ensures { λ r. ⌜ Built (partCodec flag) (zeros ∷ control ∷ cookie ∷ token ∷ deadline ∷ epoch ∷ []) (r .number) (r .value) ⌝ }
 {
-    let flag = octets::get_u8(s, 6);
     match flag {
         0 => {
-            if part_is_zero(s) {
+            if zeros != 0 {
+                return absent(2);
+            }
+            if control != 0 {
+                return absent(2);
+            }
+            if four_zeros(cookie, token, deadline, epoch) {
                 absent(0)
             } else {
                 absent(2)
             }
         }
-        1 => present(s),
+        1 => present(zeros, control, cookie, token, deadline, epoch),
         _ => absent(2),
     }
+}
+
+fn entry_part(s: &[u8]) -> PartAnswer
+    ensures { λ r. ⌜ Built (partCodec (le (octetsAt (now (s .entry)) 6 1))) (fieldsAt (cookieValueCodec .layout) (now (s .entry)) 48) (r .number) (r .value) ⌝ }
+{
+    let flag = octets::get_u8(s, 6);
+    let zeros = octets::get_u32_le(s, 48);
+    let control = octets::get_u32_le(s, 52);
+    let cookie = octets::get_u64_le(s, 56);
+    let token = octets::get_u64_le(s, 64);
+    let deadline = octets::get_u64_le(s, 72);
+    let epoch = octets::get_u64_le(s, 80);
+    part_of(flag, zeros, control, cookie, token, deadline, epoch)
 }
 
 // The record whose fields stand at the start.
@@ -155,15 +197,15 @@ fn read(s: &[u8]) -> InspectionAnswer
     if !tail_is_zero(s) {
         return refused(2);
     }
-    let current = CurrentFenceToken::read(s, 8);
+    let current = current_part(s);
     if current.number != 0 {
         return refused(2);
     }
-    let mutation = FenceMutationAuthority::read(s, 32);
+    let mutation = mutation_part(s);
     if mutation.number != 0 {
         return refused(2);
     }
-    let entry = part(s);
+    let entry = entry_part(s);
     if entry.number != 0 {
         return refused(2);
     }
@@ -192,16 +234,28 @@ fn write_head(out: &mut [u8], flag: u8)
     octets::put_u8(out, 7, 0);
 }
 
-// Zeros in the place of an inner entry.
-fn write_absent(out: &mut [u8])
-    ensures { λ r. ⌜ now (out .exit) ≡ puts (cookieValueCodec .layout) (0 ∷ zeroTail) (now (out .entry)) 48 ⌝ }
+// The current record and the mutation authority.
+fn write_front(out: &mut [u8], control: u32, token: u64, cookie: u64, generation: u64, claim: u64)
+    ensures { λ r. ⌜ now (out .exit) ≡ puts (currentCodec .layout ++ mutationCodec .layout) (0 ∷ control ∷ token ∷ cookie ∷ generation ∷ claim ∷ []) (now (out .entry)) 8 ⌝ }
+{
+    octets::put_u32_le(out, 8, 0);
+    octets::put_u32_le(out, 12, control);
+    octets::put_u64_le(out, 16, token);
+    octets::put_u64_le(out, 24, cookie);
+    octets::put_u64_le(out, 32, generation);
+    octets::put_u64_le(out, 40, claim);
+}
+
+// The inner entry, or zeros in its place.
+fn write_part(out: &mut [u8], control: u32, cookie: u64, token: u64, deadline: u64, epoch: u64)
+    ensures { λ r. ⌜ now (out .exit) ≡ puts (cookieValueCodec .layout) (0 ∷ control ∷ cookie ∷ token ∷ deadline ∷ epoch ∷ []) (now (out .entry)) 48 ⌝ }
 {
     octets::put_u32_le(out, 48, 0);
-    octets::put_u32_le(out, 52, 0);
-    octets::put_u64_le(out, 56, 0);
-    octets::put_u64_le(out, 64, 0);
-    octets::put_u64_le(out, 72, 0);
-    octets::put_u64_le(out, 80, 0);
+    octets::put_u32_le(out, 52, control);
+    octets::put_u64_le(out, 56, cookie);
+    octets::put_u64_le(out, 64, token);
+    octets::put_u64_le(out, 72, deadline);
+    octets::put_u64_le(out, 80, epoch);
 }
 
 // The forty zeros at the end.
@@ -241,8 +295,15 @@ impl InspectedEntry {
             × Fit (cookieValueCodec .layout) (partFields self) ⌝ }
     {
         match self {
-            InspectedEntry::Absent => write_absent(out),
-            InspectedEntry::Present(value) => value.write(out, 48),
+            InspectedEntry::Absent => write_part(out, 0, 0, 0, 0, 0),
+            InspectedEntry::Present(value) => {
+                let state = value.state;
+                let cookie = value.socket_cookie;
+                let token = value.durable_fence_token;
+                let deadline = value.deadline_boot_ns;
+                let epoch = value.control_epoch;
+                write_part(out, state.control(), cookie.0, token.0, deadline.0, epoch.0)
+            }
         }
     }
 }
@@ -318,9 +379,17 @@ impl FenceInspection {
         let current = self.current;
         let mutation = self.mutation;
         let entry = self.entry;
+        let token = current.durable_fence_token;
+        let cookie = current.registered_socket_cookie;
         write_head(out, entry.flag());
-        current.write(out, 8);
-        mutation.write(out, 32);
+        write_front(
+            out,
+            current.control(),
+            token.0,
+            cookie.0,
+            mutation.generation,
+            mutation.in_flight_claim,
+        );
         entry.write(out);
         write_tail(out);
     }

@@ -1,8 +1,7 @@
 // The mutation authority, 16 bytes: the last completed generation, and the claim in flight.
 ghost use mathlib.Core.Path.{_≡_};
 ghost use mathlib.Core.List.{[], _∷_};
-ghost use Prim.Native.Nat.{_<_};
-ghost use Rattle.octets.specs.Layout.{fieldsAt, puts};
+ghost use Rattle.octets.specs.Layout.{puts};
 ghost use Rattle.octets.specs.Codec.{Built, Decoded, Encoded, sound};
 ghost use Rattle.records.specs.Mutation.{mutationRule, mutationCodec};
 
@@ -80,32 +79,23 @@ impl FenceMutationAuthority {
         rule(self.generation, self.in_flight_claim)
     }
 
-    // The record whose fields stand at a place.
-    pub(crate) fn read(s: &[u8], at: usize) -> MutationAnswer
-        requires { ⌜ at < 128 ⌝ }
-        ensures { λ r. ⌜ Built mutationCodec (fieldsAt (mutationCodec .layout) (now (s .entry)) at) (r .number) (r .value) ⌝ }
-    {
-        let generation = octets::get_u64_le(s, at);
-        let claim = octets::get_u64_le(s, at + 8);
-        FenceMutationAuthority::new(generation, claim)
-    }
-
     pub fn decode(s: &[u8]) -> MutationAnswer
         ensures { λ r. ⌜ Decoded mutationCodec (now (s .entry)) (r .number) (r .value) ⌝ }
     {
         if s.len() != FenceMutationAuthority::LEN {
             return refused(1);
         }
-        FenceMutationAuthority::read(s, 0)
+        let generation = octets::get_u64_le(s, 0);
+        let claim = octets::get_u64_le(s, 8);
+        FenceMutationAuthority::new(generation, claim)
     }
 
-    // The record's fields, put at a place.
-    pub(crate) fn write(self, out: &mut [u8], at: usize)
-        requires { ⌜ at < 128 ⌝ }
-        ensures { λ r. ⌜ now (out .exit) ≡ puts (mutationCodec .layout) (mutationCodec .fields self) (now (out .entry)) at ⌝ }
+    // The record's fields, put at the start.
+    fn write(self, out: &mut [u8])
+        ensures { λ r. ⌜ now (out .exit) ≡ puts (mutationCodec .layout) (mutationCodec .fields self) (now (out .entry)) 0 ⌝ }
     {
-        octets::put_u64_le(out, at, self.generation);
-        octets::put_u64_le(out, at + 8, self.in_flight_claim);
+        octets::put_u64_le(out, 0, self.generation);
+        octets::put_u64_le(out, 8, self.in_flight_claim);
     }
 
     pub fn encode(self, out: &mut [u8]) -> u32
@@ -117,7 +107,7 @@ impl FenceMutationAuthority {
         if out.len() < FenceMutationAuthority::LEN {
             return 4;
         }
-        self.write(out, 0);
+        self.write(out);
         0
     }
 }

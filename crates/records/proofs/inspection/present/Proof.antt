@@ -1,4 +1,4 @@
--- `present`: what the cookie value's reader answers, under flag 1. Assumes nothing.
+-- `present`: what the cookie value's numbers give, under flag 1. Assumes nothing.
 use mathlib.Core.Path.{refl, ap}
 use Rattle.octets.proofs.CodecLaws.{built-done, built-refused, done-ok, done-value, refused-ok}
 use Rattle.records.specs.declared.inspection.InspectedEntry.the-variants.{Present}
@@ -10,12 +10,12 @@ use Rattle.records.proofs.inspection.present.Tie as tie
 
 returns : tie.Need-returns
 unfolding partRule
-returns c = built-refused (partCodec 1) (refused-ok cookieValueCodec (c .before .before .before .read .ensures) (c .before .if1 .taken)) (c .absent .ensures)
+returns c = built-refused (partCodec 1) (refused-ok cookieValueCodec (c .before .before .before .from-fields .ensures) (c .before .if1 .taken)) (c .absent .ensures)
 
 returns-2 : tie.Need-returns-2
 unfolding partRule
 returns-2 c =
-    let r = c .before .before .before .read .ensures in
+    let r = c .before .before .before .from-fields .ensures in
     let z = c .before .if1 .left in
     built-done (partCodec 1) (done-ok cookieValueCodec r z) refl (ap Present (done-value cookieValueCodec r z))
 

@@ -30,7 +30,7 @@ returns-3 c =
     let h = z .before .before in
     let right = sym (h .head-is-right .ensures) ∙ not-false (h .head-is-right .result) (z .before .if1 .left) in
     let tail = sym (z .tail-is-zero .ensures) ∙ not-false (z .tail-is-zero .result) (r .before .if2 .left) in
-    built-refused inspectionCodec (rw (right, tail, refused-ok currentCodec (r .read .ensures) (c .before .if3 .taken))) (c .refused3 .ensures)
+    built-refused inspectionCodec (rw (right, tail, refused-ok currentCodec (r .current-part .ensures) (c .before .if3 .taken))) (c .refused3 .ensures)
 
 returns-4 : tie.Need-returns-4
 returns-4 c =
@@ -40,8 +40,8 @@ returns-4 c =
     let h = z .before .before in
     let right = sym (h .head-is-right .ensures) ∙ not-false (h .head-is-right .result) (z .before .if1 .left) in
     let tail = sym (z .tail-is-zero .ensures) ∙ not-false (z .tail-is-zero .result) (r .before .if2 .left) in
-    let current = done-ok currentCodec (r .read .ensures) (m .before .if3 .left) in
-    built-refused inspectionCodec (rw (right, tail, current, refused-ok mutationCodec (m .read2 .ensures) (c .before .if4 .taken))) (c .refused4 .ensures)
+    let current = done-ok currentCodec (r .current-part .ensures) (m .before .if3 .left) in
+    built-refused inspectionCodec (rw (right, tail, current, refused-ok mutationCodec (m .mutation-part .ensures) (c .before .if4 .taken))) (c .refused4 .ensures)
 
 returns-5 : tie.Need-returns-5
 returns-5 c =
@@ -52,10 +52,10 @@ returns-5 c =
     let h = z .before .before in
     let right = sym (h .head-is-right .ensures) ∙ not-false (h .head-is-right .result) (z .before .if1 .left) in
     let tail = sym (z .tail-is-zero .ensures) ∙ not-false (z .tail-is-zero .result) (r .before .if2 .left) in
-    let current = done-ok currentCodec (r .read .ensures) (m .before .if3 .left) in
-    let mutation = done-ok mutationCodec (m .read2 .ensures) (p .before .if4 .left) in
+    let current = done-ok currentCodec (r .current-part .ensures) (m .before .if3 .left) in
+    let mutation = done-ok mutationCodec (m .mutation-part .ensures) (p .before .if4 .left) in
     let flag = le (octetsAt (h .before .before .args .s .now) 6 1) in
-    built-refused inspectionCodec (rw (right, tail, current, mutation, refused-ok (partCodec flag) (p .part .ensures) (c .before .if5 .taken))) (c .refused5 .ensures)
+    built-refused inspectionCodec (rw (right, tail, current, mutation, refused-ok (partCodec flag) (p .entry-part .ensures) (c .before .if5 .taken))) (c .refused5 .ensures)
 
 returns-6 : tie.Need-returns-6
 returns-6 c =
@@ -67,12 +67,12 @@ returns-6 c =
     let h = z .before .before in
     let right = sym (h .head-is-right .ensures) ∙ not-false (h .head-is-right .result) (z .before .if1 .left) in
     let tail = sym (z .tail-is-zero .ensures) ∙ not-false (z .tail-is-zero .result) (r .before .if2 .left) in
-    let current = done-ok currentCodec (r .read .ensures) (m .before .if3 .left) in
-    let mutation = done-ok mutationCodec (m .read2 .ensures) (p .before .if4 .left) in
+    let current = done-ok currentCodec (r .current-part .ensures) (m .before .if3 .left) in
+    let mutation = done-ok mutationCodec (m .mutation-part .ensures) (p .before .if4 .left) in
     let part = partCodec (le (octetsAt (h .before .before .args .s .now) 6 1)) in
-    built-done inspectionCodec (rw (right, tail, current, mutation, done-ok part (p .part .ensures) (done .if5 .left))) refl
-    (λ i. inspection (done-value currentCodec (r .read .ensures) (m .before .if3 .left) i) (done-value mutationCodec (m .read2 .ensures) (p .before .if4 .left) i)
-    (done-value part (p .part .ensures) (done .if5 .left) i))
+    built-done inspectionCodec (rw (right, tail, current, mutation, done-ok part (p .entry-part .ensures) (done .if5 .left))) refl
+    (λ i. inspection (done-value currentCodec (r .current-part .ensures) (m .before .if3 .left) i) (done-value mutationCodec (m .mutation-part .ensures) (p .before .if4 .left) i)
+    (done-value part (p .entry-part .ensures) (done .if5 .left) i))
 
 pub read-spec : {M : Type 1} → statement M
 read-spec =

@@ -4,7 +4,13 @@ use Rattle.records.proofs.entry.FenceEntry.write.Statement.{statement}
 use Rattle.records.proofs.entry.FenceEntry.write.Tie as tie
 
 returns : tie.Need-returns
-returns c = cc
+returns c =
+    let p5 = c .before .before in
+    let p4 = p5 .before .before .before .before in
+    let p3 = p4 .before .before .before .before in
+    let p2 = p3 .before .before .before .before in
+    let p1 = p2 .before .before .before .before .before in
+    rw (p5 .put-u64-le3 .ensures, p4 .put-u64-le2 .ensures, p3 .put-u64-le .ensures, p2 .put-u32-le2 .ensures, p1 .put-u32-le .ensures, p2 .before .control .ensures)
 
 pub write-spec : {M : Type 1} → statement M
 write-spec =

@@ -21,8 +21,8 @@ returns-3 : tie.Need-returns-3
 returns-3 c =
     let w = c .before .before .before .before in
     let s = w .before .before .is-sound in
-    let written = c .before .before .write .ensures in
-    encode-done inspectionCodec _ _ _ (sym (s .ensures) ∙ not-false (s .result) (w .before .if1 .left)) (w .if2 .left) (written .1) (written .0)
+    encode-done inspectionCodec _ _ _ (sym (s .ensures) ∙ not-false (s .result) (w .before .if1 .left)) (w .if2 .left)
+    (c .before .before .write .ensures .1) (c .before .before .write .ensures .0)
 
 pub encode-spec : {M : Type 1} → statement M
 encode-spec =

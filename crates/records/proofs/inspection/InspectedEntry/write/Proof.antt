@@ -8,13 +8,18 @@ use Rattle.records.proofs.inspection.InspectedEntry.write.Tie as tie
 returns : tie.Need-returns
 returns c =
     let told = c .before .before .before .before .enum-told .given .1 in
-    rw told (c .before .before .write-absent .ensures, (lit< tt, (lit< tt, (lit< tt, (lit< tt, (lit< tt, (lit< tt, tt)))))))
+    rw told (c .before .before .write-part .ensures, (lit< tt, (lit< tt, (lit< tt, (lit< tt, (lit< tt, (lit< tt, tt)))))))
 
 returns-2 : tie.Need-returns-2
 returns-2 c =
-    let told = c .before .before .before .before .before .self .given in
-    let known = c .before .before .before .before .known-told .given in
-    rw (told .1) (c .before .before .write .ensures, (lit< tt, (control-fits (told .0 .0 .state), (search (needs, known), (search (needs, known), (search (needs, known), (search (needs, known), tt)))))))
+    let control = c .before .before .before in
+    let known = control .before .before .before .before .before .before in
+    let told = known .before .self .given in
+    let f = known .known-told .given .0 .1 .1 .1 in
+    rw (told .1) (
+      rw (← control .control .ensures) (c .before .before .write-part2 .ensures),
+      (lit< tt, (control-fits (told .0 .0 .state), (f .0 .1 .1 .0 .1, (f .1 .0 .1 .1 .0 .1, (f .1 .1 .0 .1 .1 .0 .1, (f .1 .1 .1 .0 .1 .1 .0 .1, tt)))))),
+    )
 
 pub write-spec : {M : Type 1} → statement M
 write-spec =
@@ -23,6 +28,7 @@ write-spec =
     (λ c. search needs)
     (λ c κs. search needs)
     (λ c. search needs)
+    (λ c κs. search needs)
     (λ c κs. search needs)
     (λ c. search needs)
     returns

@@ -1,4 +1,4 @@
--- `decode`: the length first, then the fields. Assumes nothing.
+-- `decode`: the length first, then the fields, whose numbers are those of the layout. Assumes nothing.
 use Rattle.octets.proofs.CodecLaws.{decode-length, decode-read}
 use Rattle.records.specs.Mutation.{mutationCodec}
 use borrow.Author.Needs.{needs}
@@ -9,7 +9,18 @@ returns : tie.Need-returns
 returns c = decode-length mutationCodec (c .before .if1 .taken) (c .refused .ensures)
 
 returns-2 : tie.Need-returns-2
-returns-2 c = decode-read mutationCodec (c .before .if1 .left) (c .read .ensures)
+returns-2 c =
+    let g2 = c .before in
+    let g1 = g2 .before in
+    decode-read mutationCodec (g1 .before .if1 .left) (rw (← g1 .get-u64-le .ensures, ← g2 .get-u64-le2 .ensures) (c .new .ensures))
 
 pub decode-spec : {M : Type 1} → statement M
-decode-spec = tie.close (tie.spec (λ c κs. search needs) returns (λ c κs. search needs) returns-2)
+decode-spec =
+    tie.close
+    (tie.spec
+    (λ c κs. search needs)
+    returns
+    (λ c κs. search needs)
+    (λ c κs. search needs)
+    (λ c κs. search needs)
+    returns-2)

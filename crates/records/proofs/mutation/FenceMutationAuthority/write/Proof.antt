@@ -4,9 +4,10 @@ use Rattle.records.proofs.mutation.FenceMutationAuthority.write.Stateme
 use Rattle.records.proofs.mutation.FenceMutationAuthority.write.Tie as tie
 
 returns : tie.Need-returns
-returns c = cc
+returns c =
+    let p2 = c .before .before in
+    let p1 = p2 .before .before .before .before in
+    rw (p2 .put-u64-le2 .ensures, p1 .put-u64-le .ensures)
 
 pub write-spec : {M : Type 1} → statement M
-write-spec =
-    tie.close
-    (tie.spec (λ c κs. search needs) (λ c. search needs) (λ c κs. search needs) (λ c. search needs) returns)
+write-spec = tie.close (tie.spec (λ c κs. search needs) (λ c κs. search needs) (λ c. search needs) returns)

@@ -1,7 +1,7 @@
--- `write_absent`: one store for each field, in the order of the layout. Assumes nothing.
+-- `write_part`: one store for each field, in the order of the layout. Assumes nothing.
 use borrow.Author.Needs.{needs}
-use Rattle.records.proofs.inspection.write_absent.Statement.{statement}
-use Rattle.records.proofs.inspection.write_absent.Tie as tie
+use Rattle.records.proofs.inspection.write_part.Statement.{statement}
+use Rattle.records.proofs.inspection.write_part.Tie as tie
 
 returns : tie.Need-returns
 returns c =
@@ -13,8 +13,8 @@ returns c =
     let p1 = p2 .before .before .before .before in
     rw (p6 .put-u64-le4 .ensures, p5 .put-u64-le3 .ensures, p4 .put-u64-le2 .ensures, p3 .put-u64-le .ensures, p2 .put-u32-le2 .ensures, p1 .put-u32-le .ensures)
 
-pub write-absent-spec : {M : Type 1} → statement M
-write-absent-spec =
+pub write-part-spec : {M : Type 1} → statement M
+write-part-spec =
     tie.close
     (tie.spec
     (λ c κs. search needs)

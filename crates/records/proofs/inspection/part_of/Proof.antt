@@ -1,0 +1,60 @@
+-- `part_of`: the flag chooses, as in the definition. Assumes nothing.
+use mathlib.Core.Path.{sym, _∙_}
+use borrow.Author.Tests.{eq-eqb, ne-eqb}
+use Rattle.octets.specs.Octets.{allZero}
+use Rattle.octets.proofs.CodecLaws.{built-done, built-refused}
+use Rattle.records.specs.Inspection.{partRule, partCodec}
+use borrow.Author.Needs.{needs}
+use Rattle.records.proofs.inspection.part_of.Statement.{statement}
+use Rattle.records.proofs.inspection.part_of.Tie as tie
+
+returns : tie.Need-returns
+unfolding partRule allZero
+returns c = rw (c .before .before .match .keys1) (built-refused (partCodec 0) (rw (ne-eqb _ _ (c .before .if1 .taken))) (c .absent .ensures))
+
+returns-2 : tie.Need-returns-2
+unfolding partRule allZero
+returns-2 c = rw (c .before .before .before .match .keys1) (built-refused (partCodec 0) (rw (eq-eqb _ _ (c .before .before .if1 .left), ne-eqb _ _ (c .before .if2 .taken))) (c .absent2 .ensures))
+
+returns-3 : tie.Need-returns-3
+unfolding partRule allZero
+returns-3 c =
+    let z = c .before .before in
+    let k = z .before in
+    rw (k .before .before .match .keys1) (built-done (partCodec 0) (rw (eq-eqb _ _ (k .before .if1 .left), eq-eqb _ _ (k .if2 .left)) (sym (z .four-zeros .ensures) ∙ c .before .if3 .taken))
+    (c .absent3 .ensures .0) (c .absent3 .ensures .1))
+
+returns-4 : tie.Need-returns-4
+unfolding partRule allZero
+returns-4 c =
+    let z = c .before .before in
+    let k = z .before in
+    rw (k .before .before .match .keys1) (built-refused (partCodec 0) (rw (eq-eqb _ _ (k .before .if1 .left), eq-eqb _ _ (k .if2 .left)) (sym (z .four-zeros .ensures) ∙ c .before .if3 .left))
+    (c .absent4 .ensures))
+
+returns-5 : tie.Need-returns-5
+returns-5 c = rw (c .before .match .keys2) (c .present .ensures)
+
+returns-6 : tie.Need-returns-6
+unfolding partRule
+returns-6 c =
+    let none = c .before .match .rest in
+    built-refused (partCodec (c .before .before .args .flag)) (rw (ne-eqb _ _ (none .0 .1), ne-eqb _ _ (none .1))) (c .absent5 .ensures)
+
+pub part-of-spec : {M : Type 1} → statement M
+part-of-spec =
+    tie.close
+    (tie.spec
+    (λ c κs. search needs)
+    returns
+    (λ c κs. search needs)
+    returns-2
+    (λ c κs. search needs)
+    (λ c κs. search needs)
+    (λ c κs. search needs)
+    (λ c κs. search needs)
+    (λ c κs. search needs)
+    returns-3
+    returns-4
+    returns-5
+    returns-6)
