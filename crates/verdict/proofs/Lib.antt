@@ -1,0 +1,2 @@
+-- The laws of `verdict`: the answer of each public function is its contract's alone. Assumes nothing.
+pub mod Unique

@@ -1,0 +1,2 @@
+-- The definitions that the contracts of `verdict` cite. Assumes nothing.
+pub mod Verdict
