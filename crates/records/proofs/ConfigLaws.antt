@@ -9,9 +9,8 @@ use lib.Dec.{eqb, lit<}
 use borrow.Author.Tests.{eqb-true}
 use Rattle.octets.specs.Octets.{Bytes, octetsAt, le}
 use Rattle.octets.proofs.CodecLaws.{Lawful, and-left, and-right}
-use Rattle.endpoint.specs.declared.ProtectedEndpoint.{ProtectedEndpoint}
 use Rattle.records.specs.declared.config.FenceConfig.{FenceConfig}
-use Rattle.records.specs.Config.{configMark, versionRule, frameRule, config, configCodec}
+use Rattle.records.specs.Config.{configMark, frameRule, config, configCodec}
 use Rattle.records.proofs.AddressLaws.{first-back, second-back, address-forth, half-fits}
 
 -- a value of its type: sixteen octets of address, and each number within its width

@@ -109,10 +109,10 @@ use Rattle.records.proofs.config.FenceConfig.decode.Reads as config-dec
 use Rattle.records.proofs.config.FenceConfig.decode.Kinds as config-decode-kinds
 use Rattle.records.proofs.config.FenceConfig.encode.Reads as config-encode
 use Rattle.records.proofs.config.FenceConfig.encode.Kinds as config-encode-kinds
-use Rattle.records.proofs.inspection.InspectedEntry.flag.Reads as inspected-flag
-use Rattle.records.proofs.inspection.InspectedEntry.flag.Kinds as inspected-flag-kinds
-use Rattle.records.proofs.inspection.InspectedEntry.is_sound.Reads as inspected-is-sound
-use Rattle.records.proofs.inspection.InspectedEntry.is_sound.Kinds as inspected-is-sound-kinds
+use Rattle.records.proofs.inspected.InspectedEntry.flag.Reads as inspected-flag
+use Rattle.records.proofs.inspected.InspectedEntry.flag.Kinds as inspected-flag-kinds
+use Rattle.records.proofs.inspected.InspectedEntry.is_sound.Reads as inspected-is-sound
+use Rattle.records.proofs.inspected.InspectedEntry.is_sound.Kinds as inspected-is-sound-kinds
 use Rattle.records.proofs.inspection.FenceInspection.new.Reads as inspection-new
 use Rattle.records.proofs.inspection.FenceInspection.new.Kinds as inspection-new-kinds
 use Rattle.records.proofs.inspection.FenceInspection.current.Reads as inspection-current

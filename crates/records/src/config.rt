@@ -3,7 +3,6 @@ use endpoint::ProtectedEndpoint;
 use units::RootCgroupId;
 ghost use mathlib.Core.Path.{_≡_};
 ghost use mathlib.Core.List.{[], _∷_};
-ghost use Rattle.octets.specs.Octets.{octetsAt, le};
 ghost use Rattle.octets.specs.Layout.{puts};
 ghost use Rattle.octets.specs.Codec.{Built, Decoded, Encoded, sound};
 ghost use Rattle.records.specs.Config.{versionRule, frameRule, endpointOf, config, frameFields, configCodec};

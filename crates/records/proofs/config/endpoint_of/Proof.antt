@@ -1,6 +1,4 @@
 -- `endpoint_of`: two stores into sixteen zeros are the octets of the two numbers. Assumes nothing.
-use mathlib.Core.Path.{ap, _∙_}
-use Rattle.records.specs.Config.{endpointOf}
 use Rattle.records.proofs.AddressLaws.{stored}
 use borrow.Author.Needs.{needs}
 use Rattle.records.proofs.config.endpoint_of.Statement.{statement}

@@ -1,7 +1,7 @@
 -- `refused`: the all-zero record, by its parts. Assumes nothing.
 use mathlib.Core.Path.{refl}
 use Rattle.records.specs.Inspection.{inspection}
-use Rattle.records.specs.declared.inspection.InspectedEntry.the-variants.{Absent}
+use Rattle.records.specs.declared.inspected.InspectedEntry.the-variants.{Absent}
 use borrow.Author.Needs.{needs}
 use Rattle.records.proofs.inspection.refused.Statement.{statement}
 use Rattle.records.proofs.inspection.refused.Tie as tie

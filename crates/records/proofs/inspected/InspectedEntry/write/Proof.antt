@@ -2,8 +2,8 @@
 use lib.Dec.{lit<}
 use Rattle.records.proofs.EntryLaws.{control-fits}
 use borrow.Author.Needs.{needs}
-use Rattle.records.proofs.inspection.InspectedEntry.write.Statement.{statement}
-use Rattle.records.proofs.inspection.InspectedEntry.write.Tie as tie
+use Rattle.records.proofs.inspected.InspectedEntry.write.Statement.{statement}
+use Rattle.records.proofs.inspected.InspectedEntry.write.Tie as tie
 
 returns : tie.Need-returns
 returns c =

@@ -3,10 +3,10 @@ use mathlib.Core.Path.{sym, _∙_}
 use borrow.Author.Tests.{eq-eqb, ne-eqb}
 use Rattle.octets.specs.Octets.{allZero}
 use Rattle.octets.proofs.CodecLaws.{built-done, built-refused}
-use Rattle.records.specs.Inspection.{partRule, partCodec}
+use Rattle.records.specs.Inspected.{partRule, partCodec}
 use borrow.Author.Needs.{needs}
-use Rattle.records.proofs.inspection.part_of.Statement.{statement}
-use Rattle.records.proofs.inspection.part_of.Tie as tie
+use Rattle.records.proofs.inspected.part_of.Statement.{statement}
+use Rattle.records.proofs.inspected.part_of.Tie as tie
 
 returns : tie.Need-returns
 unfolding partRule allZero
