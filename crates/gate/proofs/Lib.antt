@@ -4,3 +4,4 @@ pub mod RuleLaws
 pub mod Unique
 pub mod Rules
 pub mod IsolationLaw
+pub mod DecidedLaw

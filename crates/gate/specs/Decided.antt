@@ -1,33 +1,32 @@
 -- What `decide_egress` is given when the records decode: the packet's context and the authority's snapshot of a call (lib.rs,
 -- `PacketFenceContext` and `FenceAuthoritySnapshot`). Assumes nothing.
 use Prim.Native.Nat.{ℕ}
-use mathlib.Core.Bool.{Bool, cond, _||_}
+use mathlib.Core.Path.{_≡_}
+use mathlib.Core.Bool.{Bool, false, cond, _||_}
 use mathlib.Core.List.{[], _∷_}
 use lib.ListN.{length}
 use lib.Dec.{eqb}
 use Rattle.records.specs.CookieValue.{entryOf}
 use Rattle.packet.specs.Reading.{among}
 use Rattle.packet.specs.declared.PacketEndpointDisposition.{PacketEndpointDisposition}
-use Rattle.packet.specs.declared.PacketEndpointDisposition.the-variants.{Protected, Unrelated, Indeterminate}
+use Rattle.packet.specs.Answers.{dispositionNumber}
+use Rattle.verdict.specs.Verdict.{egressVerdict}
 use Rattle.verdict.specs.declared.PacketFenceContext.{PacketFenceContext}
 use Rattle.verdict.specs.declared.FenceAuthoritySnapshot.{FenceAuthoritySnapshot}
 use Rattle.verdict.specs.declared.RegisteredEntry.{RegisteredEntry}
 use Rattle.verdict.specs.declared.RegisteredEntry.the-variants.{Absent, Present}
-use Rattle.gate.specs.Gate.{Call, matches, endpoint, root, reading, token, registered, sought, value}
+use Rattle.gate.specs.Gate.{Call, matches, endpoint, root, reading, token, registered, sought, value, answering, gateOf}
 
 -- the rules that answer because bytes do not decode, or a table is not one
 abbrev pub undecoded : ℕ → Bool
 undecoded n = among n (1 ∷ 6 ∷ 7 ∷ 9 ∷ [])
 
--- the disposition of a number
-abbrev pub dispositionOf : ℕ → PacketEndpointDisposition
-dispositionOf n = cond (eqb n 0) Protected (cond (eqb n 1) Unrelated Indeterminate)
-
-abbrev pub contextOf : Call → PacketFenceContext
-contextOf c = record {
+-- where d is the packet's disposition
+abbrev pub contextOf : Call → PacketEndpointDisposition → PacketFenceContext
+contextOf c d = record {
   «attachment_identity_valid» = eqb (c .attachment) (root c);
   «socket_endpoint_matches» = matches (c .socket) (endpoint c);
-  «endpoint_disposition» = dispositionOf (reading c .disposition);
+  «endpoint_disposition» = d;
   «socket_cookie» = record { 0 = c .cookie };
 }
 
@@ -42,3 +41,9 @@ snapshotOf c = record {
   «current_registered_socket_cookie» = record { 0 = registered c };
   «now_boot_ns» = record { 0 = c .time };
 }
+
+-- wherever the bytes decode, the gate's slot is that of `decide_egress`
+abbrev pub Decided : Type 0
+Decided =
+    (c : Call) (d : PacketEndpointDisposition) → dispositionNumber d ≡ reading c .disposition →
+    undecoded (answering c .number) ≡ false → gateOf c .slot ≡ egressVerdict (contextOf c d) (snapshotOf c)

@@ -51,7 +51,7 @@ matches s e = eqb (s .family) (e .family) && (eqb (s .port) (e .port) && sameAdd
 
 -- "Registered cookie 0 or not k"; "boot time at or past the deadline"
 abbrev pub stale : ℕ → ℕ → Bool
-stale registered k = eqb registered 0 || not (eqb registered k)
+stale registered k = eqb registered 0 || not (eqb k registered)
 
 abbrev pub expired : ℕ → ℕ → Bool
 expired deadline time = leb deadline time

@@ -158,7 +158,7 @@ fn is_stale(registered: SocketCookie, cookie: SocketCookie) -> bool
     if current == 0 {
         return true;
     }
-    current != own
+    own != current
 }
 
 // Rule 11.
