@@ -1,0 +1,7 @@
+-- The laws of `gate`: the search, the rules, the answer as the contract's alone. Assumes nothing.
+pub mod TableLaws
+pub mod RuleLaws
+pub mod Unique
+pub mod Rules
+pub mod IsolationLaw
+pub mod DecidedLaw

@@ -1,0 +1,176 @@
+-- Document 01, 'The gate's thirteen rules': what a call is given, the rules in 01's order, and the answer. Assumes nothing.
+use Prim.Native.Nat.{ℕ}
+use mathlib.Core.Bool.{Bool, true, cond, not, _&&_, _||_}
+use mathlib.Core.List.{List, [], _∷_}
+use lib.ListN.{length}
+use lib.Dec.{leb, eqb}
+use Rattle.octets.specs.Octets.{octetsAt, sameOctets}
+use Rattle.octets.specs.Codec.{Codec, decodeNumber, decodeValue}
+use Rattle.endpoint.specs.declared.ProtectedEndpoint.{ProtectedEndpoint}
+use Rattle.records.specs.Config.{configCodec}
+use Rattle.records.specs.Current.{currentCodec}
+use Rattle.records.specs.Entry.{closed}
+use Rattle.records.specs.CookieValue.{cookieValueCodec}
+use Rattle.records.specs.declared.config.FenceConfig.{FenceConfig}
+use Rattle.records.specs.declared.current.CurrentFenceToken.{CurrentFenceToken}
+use Rattle.records.specs.declared.cookie_value.FenceCookieValue.{FenceCookieValue}
+use Rattle.packet.specs.Reading.{Answer as Reading, stop, classifyOf}
+use Rattle.verdict.specs.Verdict.{slotOf}
+use Rattle.verdict.specs.declared.FenceVerdict.{FenceVerdict}
+use Rattle.verdict.specs.declared.FenceVerdict.the-variants.{PassUnrelated, Allow, DropCookieZero, DropMissing, DropClosed, DropExpired, DropStaleToken, DropMalformed}
+use Rattle.verdict.specs.declared.CounterSlot.{CounterSlot}
+use Rattle.gate.specs.declared.Socket.{Socket}
+use Rattle.gate.specs.declared.GateAnswer.{GateAnswer}
+use Rattle.gate.specs.Table.{admissible, records, under, firstOf}
+
+-- "Given: config bytes, attachment number, socket (family, 16 address bytes, port), packet, cookie k, current bytes, a table of cookie
+-- values, boot time."
+pub record Call : Type 0 where
+  pub config : List ℕ
+  pub attachment : ℕ
+  pub socket : Socket
+  pub packet : List ℕ
+  pub cookie : ℕ
+  pub current : List ℕ
+  pub table : List ℕ
+  pub time : ℕ
+
+-- a record's bytes decode
+abbrev pub decodes : {R : Type 0} → Codec R → List ℕ → Bool
+decodes C s = eqb (decodeNumber C s) 0
+
+-- "The socket matches when family, address and port equal the endpoint's; family 4 uses four bytes."
+abbrev pub addressLength : ℕ → ℕ
+addressLength family = cond (eqb family 4) 4 16
+
+unfoldable pub sameAddress : ℕ → List ℕ → List ℕ → Bool
+sameAddress family a b = sameOctets (octetsAt a 0 (addressLength family)) (octetsAt b 0 (addressLength family))
+
+unfoldable pub matches : Socket → ProtectedEndpoint → Bool
+matches s e = eqb (s .family) (e .family) && (eqb (s .port) (e .port) && sameAddress (e .family) (s .address) (e .address))
+
+-- "Registered cookie 0 or not k"; "boot time at or past the deadline"
+abbrev pub stale : ℕ → ℕ → Bool
+stale registered k = eqb registered 0 || not (eqb k registered)
+
+abbrev pub expired : ℕ → ℕ → Bool
+expired deadline time = leb deadline time
+
+module _ (c : Call) where
+  -- the configuration; its endpoint is the one protected
+  abbrev pub configuration : FenceConfig
+  configuration = decodeValue configCodec (c .config)
+
+  abbrev pub endpoint : ProtectedEndpoint
+  endpoint = configuration .endpoint
+
+  abbrev pub root : ℕ
+  root = configuration .«root_cgroup_id» .0
+
+  abbrev pub differs : Bool
+  differs = not (matches (c .socket) endpoint)
+
+  -- the packet, read against the endpoint
+  abbrev pub reading : Reading
+  reading = classifyOf (c .packet) endpoint
+
+  -- the current record, and the records with cookie k and its token
+  abbrev pub inForce : CurrentFenceToken
+  inForce = decodeValue currentCodec (c .current)
+
+  abbrev pub token : ℕ
+  token = inForce .«durable_fence_token» .0
+
+  abbrev pub registered : ℕ
+  registered = inForce .«registered_socket_cookie» .0
+
+  abbrev pub sought : List (List ℕ)
+  sought = under (c .cookie) token (records (c .table))
+
+  -- the first of them, decoded
+  abbrev pub value : FenceCookieValue
+  value = decodeValue cookieValueCodec (firstOf sought)
+
+pub record Rule : Type 0 where
+  pub number : ℕ
+  pub applies : Call → Bool
+  pub verdict : FenceVerdict
+
+abbrev pub rule : ℕ → (Call → Bool) → FenceVerdict → Rule
+rule n a v = record { number = n; applies = a; verdict = v }
+
+-- "13. Allow."
+abbrev pub allow : Rule
+allow = rule 13 (λ c. true) Allow
+
+unfoldable pub rules : List Rule
+rules =
+    -- 1. Config does not decode: DropMalformed.
+    rule 1 (λ c. not (decodes configCodec (c .config))) DropMalformed ∷
+    -- 2. Attachment number is not its root cgroup: DropMalformed.
+    rule 2 (λ c. not (eqb (c .attachment) (root c))) DropMalformed ∷
+    -- 3. Socket differs, packet Unrelated: PassUnrelated.
+    rule 3 (λ c. differs c && eqb (reading c .disposition) 1) PassUnrelated ∷
+    -- 4. Socket differs, packet Indeterminate: DropMalformed.
+    rule 4 (λ c. differs c && eqb (reading c .disposition) 2) DropMalformed ∷
+    -- 5. k is 0: DropCookieZero.
+    rule 5 (λ c. eqb (c .cookie) 0) DropCookieZero ∷
+    -- 6. Current does not decode: DropMalformed.
+    rule 6 (λ c. not (decodes currentCodec (c .current))) DropMalformed ∷
+    -- 7. Table length not a multiple of 40, or over 163,840: DropMalformed.
+    rule 7 (λ c. not (admissible (c .table))) DropMalformed ∷
+    -- 8. Current token 0 (no key is sought), or no record with cookie k and that token in bytes 8-23: DropMissing.
+    rule 8 (λ c. eqb (token c) 0 || eqb (length (sought c)) 0) DropMissing ∷
+    -- 9. The first such record does not decode: DropMalformed.
+    rule 9 (λ c. not (decodes cookieValueCodec (firstOf (sought c)))) DropMalformed ∷
+    -- 10. Registered cookie 0 or not k: DropStaleToken.
+    rule 10 (λ c. stale (registered c) (c .cookie)) DropStaleToken ∷
+    -- 11. State not Active: DropClosed.
+    rule 11 (λ c. closed (value c .state)) DropClosed ∷
+    -- 12. Boot time at or past the deadline: DropExpired.
+    rule 12 (λ c. expired (value c .«deadline_boot_ns» .0) (c .time)) DropExpired ∷
+    allow ∷ []
+
+-- "The first rule that applies answers"; the thirteenth always applies
+abbrev pub firstRule : List Rule → Call → Rule
+firstRule [] c = allow
+firstRule (r ∷ rs) c = cond (r .applies c) r (firstRule rs c)
+
+unfoldable pub answering : Call → Rule
+answering c = firstRule rules c
+
+-- "The header count is the packet's under rules 1 and 2 passed and socket differing, else 0."
+unfoldable pub headersOf : Call → ℕ
+headersOf c = cond (decodes configCodec (c .config) && (eqb (c .attachment) (root c) && differs c)) (reading c .headers) 0
+
+-- an answer: the verdict by its slot, and the header count
+pub record Answer : Type 0 where
+  pub slot : CounterSlot
+  pub headers : ℕ
+
+unfoldable pub gateOf : Call → Answer
+gateOf c = record { slot = slotOf (answering c .verdict); headers = headersOf c }
+
+abbrev pub answerOf : GateAnswer → Answer
+answerOf r = record { slot = slotOf (r .verdict); headers = r .headers }
+
+-- What the steps of a gate answer. "When the socket matches, the packet is not read": it counts as the endpoint's, with no header
+unfoldable pub sourceOf : Socket → List ℕ → ProtectedEndpoint → Reading
+sourceOf s p e = cond (matches s e) (stop 0 0) (classifyOf p e)
+
+-- "Token 0 seeks nothing": the record that is sought under a key, or no bytes
+unfoldable pub soughtRecord : ℕ → ℕ → List ℕ → List ℕ
+soughtRecord k t table = cond (eqb t 0) [] (firstOf (under k t (records table)))
+
+-- rules 5 to 13 look at the cookie, the current record, the table and the time alone: a call with these, and nothing else
+abbrev pub lookup : ℕ → List ℕ → List ℕ → ℕ → Call
+lookup k current table time = record {
+  config = [];
+  attachment = 0;
+  socket = record { family = 0; address = []; port = 0 };
+  packet = [];
+  cookie = k;
+  current = current;
+  table = table;
+  time = time;
+}

@@ -1,0 +1,41 @@
+-- A table of cookie values, and its records under a key (document 01, 'The gate's thirteen rules'). Assumes nothing.
+use Prim.Native.Nat.{ℕ, zero, suc, _/_, _%_}
+use mathlib.Core.Bool.{Bool, cond, _&&_}
+use mathlib.Core.List.{List, [], _∷_}
+use lib.ListN.{length, take, drop}
+use lib.Dec.{leb, eqb}
+use Rattle.octets.specs.Octets.{octetsAt, le}
+
+-- a record has 40 bytes; a table has at most 4,096 of them
+abbrev pub recordLength : ℕ
+recordLength = 40
+
+abbrev pub tableLimit : ℕ
+tableLimit = 163_840
+
+-- "Table length not a multiple of 40, or over 163,840" is not admissible; 0 is
+unfoldable pub admissible : List ℕ → Bool
+admissible s = eqb (length s % recordLength) 0 && leb (length s) tableLimit
+
+-- the first n records of s
+unfoldable pub recordsIn : ℕ → List ℕ → List (List ℕ)
+recordsIn zero s = []
+recordsIn (suc n) s = take recordLength s ∷ recordsIn n (drop recordLength s)
+
+-- the whole records of a table of any length; a part record at the end is none
+unfoldable pub records : List ℕ → List (List ℕ)
+records s = recordsIn (length s / recordLength) s
+
+-- "with cookie k and that token in bytes 8-23"
+unfoldable pub isUnder : ℕ → ℕ → List ℕ → Bool
+isUnder k t r = eqb (le (octetsAt r 8 8)) k && eqb (le (octetsAt r 16 8)) t
+
+-- the records under a key, in their order
+unfoldable pub under : ℕ → ℕ → List (List ℕ) → List (List ℕ)
+under k t [] = []
+under k t (r ∷ rs) = cond (isUnder k t r) (r ∷ under k t rs) (under k t rs)
+
+-- the first of some records; no bytes where there is none
+unfoldable pub firstOf : List (List ℕ) → List ℕ
+firstOf [] = []
+firstOf (r ∷ rs) = r

@@ -1,0 +1,278 @@
+// The joined gate: one call decides what becomes of a packet, from bytes as a hook finds them.
+use endpoint::ProtectedEndpoint;
+use packet::PacketEndpointDisposition;
+use packet::PacketReading;
+use records::config::FenceConfig;
+use records::cookie_value::FenceCookieValue;
+use records::current::CurrentFenceToken;
+use records::entry::FenceEntryState;
+use units::BootNs;
+use units::DurableFenceToken;
+use units::RootCgroupId;
+use units::SocketCookie;
+use verdict::FenceVerdict;
+ghost use mathlib.Core.Path.{_≡_};
+ghost use mathlib.Core.Bool.{not};
+ghost use lib.Dec.{eqb};
+ghost use lib.ListN.{drop};
+ghost use Rattle.packet.specs.Answers as reading;
+ghost use Rattle.records.specs.Entry.{closed};
+ghost use Rattle.verdict.specs.Verdict.{slotOf};
+ghost use Rattle.gate.specs.Table.{admissible, records, isUnder, under, firstOf};
+ghost use Rattle.gate.specs.Gate.{sameAddress, matches, stale, expired, sourceOf, soughtRecord, rules, firstRule, lookup, gateOf, answerOf};
+
+// The longest table: 4,096 cookie values.
+pub const MAX_TABLE_LEN: usize = 163_840;
+
+pub type SocketAddress = [u8; 16];
+
+// The socket that a packet leaves from. An IPv4 address stands in the first four bytes of `address`.
+pub struct Socket {
+    pub family: u8,
+    pub address: SocketAddress,
+    pub port: u16,
+}
+
+pub struct GateAnswer {
+    pub verdict: FenceVerdict,
+    // The IPv6 extension headers passed; 0 where the packet was not read.
+    pub headers: u8,
+}
+
+// ---- the search
+
+// Whether a cookie value stands under a key: its cookie is at 8, its token at 16.
+fn is_under(bytes: &[u8], cookie: u64, token: u64) -> bool
+    ensures { λ r. ⌜ r ≡ isUnder cookie token (now (bytes .entry)) ⌝ }
+{
+    if octets::get_u64_le(bytes, 8) == cookie {
+        return octets::get_u64_le(bytes, 16) == token;
+    }
+    false
+}
+
+// The first whole record of the table with this cookie and token, as that part of the table; an empty part where there is none.
+pub fn find_record(table: &[u8], cookie: SocketCookie, token: DurableFenceToken) -> &[u8]
+    ensures { λ r. ⌜ now r ≡ firstOf (under (cookie .0) (token .0) (records (now (table .entry)))) ⌝ }
+{
+    let k = cookie.0;
+    let t = token.0;
+    if table.len() < FenceCookieValue::LEN {
+        return &table[..0];
+    }
+    let last = table.len() - FenceCookieValue::LEN;
+    let mut at = 0;
+    while at <= last {
+        let one = &table[at..at + 40];
+        if is_under(one, k, t) {
+            return one;
+        }
+        at += 40;
+    }
+    &table[..0]
+}
+
+// ---- a function for each rule's test
+
+// Rule 2: the hook is attached elsewhere than at the configuration's root.
+fn is_elsewhere(attachment: RootCgroupId, root: RootCgroupId) -> bool
+    ensures { λ r. ⌜ r ≡ not (eqb (attachment .0) (root .0)) ⌝ }
+{
+    attachment.0 != root.0
+}
+
+// The addresses of a family are compared where they stand, as numbers.
+fn same_address(family: u8, a: &[u8], b: &[u8]) -> bool
+    ensures { λ r. ⌜ r ≡ sameAddress family (now (a .entry)) (now (b .entry)) ⌝ }
+{
+    if family == ProtectedEndpoint::IPV4 {
+        return octets::get_u32_le(a, 0) == octets::get_u32_le(b, 0);
+    }
+    if octets::get_u64_le(a, 0) == octets::get_u64_le(b, 0) {
+        return octets::get_u64_le(a, 8) == octets::get_u64_le(b, 8);
+    }
+    false
+}
+
+impl Socket {
+    // Whether the socket is bound to the endpoint.
+    pub fn matches(self, endpoint: ProtectedEndpoint) -> bool
+        ensures { λ r. ⌜ r ≡ matches self endpoint ⌝ }
+    {
+        let own_family = self.family;
+        let own_address = self.address;
+        let own_port = self.port;
+        let family = endpoint.family;
+        let address = endpoint.address;
+        let port = endpoint.port;
+        if own_family != family {
+            return false;
+        }
+        if own_port != port {
+            return false;
+        }
+        same_address(family, &own_address, &address)
+    }
+}
+
+// Rules 3 and 4: the packet is read where the socket differs. Where it matches, the packet counts as the endpoint's, unread.
+fn read_source(socket: Socket, packet: &[u8], endpoint: ProtectedEndpoint) -> PacketReading
+    ensures { λ r. ⌜ reading.answerOf r ≡ sourceOf socket (now (packet .entry)) endpoint ⌝ }
+{
+    if socket.matches(endpoint) {
+        return PacketReading {
+            disposition: PacketEndpointDisposition::Protected,
+            headers: 0,
+        };
+    }
+    packet::classify_l3_udp_source(packet, endpoint)
+}
+
+// Rule 7: whole records, and no more than 4,096.
+fn is_admissible(table: &[u8]) -> bool
+    ensures { λ r. ⌜ r ≡ admissible (now (table .entry)) ⌝ }
+{
+    if table.len() % 40 != 0 {
+        return false;
+    }
+    table.len() <= MAX_TABLE_LEN
+}
+
+// Rule 8: token 0 seeks nothing.
+fn seek(table: &[u8], cookie: SocketCookie, token: DurableFenceToken) -> &[u8]
+    ensures { λ r. ⌜ now r ≡ soughtRecord (cookie .0) (token .0) (now (table .entry)) ⌝ }
+{
+    let sought = token.0;
+    if sought == 0 {
+        return &table[..0];
+    }
+    find_record(table, cookie, token)
+}
+
+// Rule 10: no socket is registered, or another one.
+fn is_stale(registered: SocketCookie, cookie: SocketCookie) -> bool
+    ensures { λ r. ⌜ r ≡ stale (registered .0) (cookie .0) ⌝ }
+{
+    let current = registered.0;
+    let own = cookie.0;
+    if current == 0 {
+        return true;
+    }
+    own != current
+}
+
+// Rule 11.
+fn is_closed(state: FenceEntryState) -> bool
+    ensures { λ r. ⌜ r ≡ closed state ⌝ }
+{
+    match state {
+        FenceEntryState::InitialClosed => true,
+        FenceEntryState::Active => false,
+        FenceEntryState::TerminalClosed => true,
+        FenceEntryState::Reclaiming => true,
+    }
+}
+
+// Rule 12: at the deadline, or past it.
+fn is_expired(deadline: BootNs, now_boot_ns: BootNs) -> bool
+    ensures { λ r. ⌜ r ≡ expired (deadline .0) («now_boot_ns» .0) ⌝ }
+{
+    deadline.0 <= now_boot_ns.0
+}
+
+// ---- the rules in their order
+
+// Rules 5 to 13: the packet is the endpoint's, and its socket is looked up.
+fn authorize(
+    cookie: SocketCookie,
+    current: &[u8],
+    table: &[u8],
+    now_boot_ns: BootNs,
+) -> FenceVerdict
+    ensures { λ r. ⌜ slotOf r ≡ slotOf (firstRule (drop 4 rules) (lookup (cookie .0) (now (current .entry)) (now (table .entry)) («now_boot_ns» .0)) .verdict) ⌝ }
+{
+    let own = cookie.0;
+    if own == 0 {
+        return FenceVerdict::DropCookieZero;
+    }
+    let published = CurrentFenceToken::decode(current);
+    if published.number != 0 {
+        return FenceVerdict::DropMalformed;
+    }
+    if !is_admissible(table) {
+        return FenceVerdict::DropMalformed;
+    }
+    let authority = published.value;
+    let token = authority.durable_fence_token;
+    let registered = authority.registered_socket_cookie;
+    let found = seek(table, cookie, token);
+    if found.len() == 0 {
+        return FenceVerdict::DropMissing;
+    }
+    let registration = FenceCookieValue::decode(found);
+    if registration.number != 0 {
+        return FenceVerdict::DropMalformed;
+    }
+    let value = registration.value;
+    let state = value.state;
+    let deadline = value.deadline_boot_ns;
+    if is_stale(registered, cookie) {
+        return FenceVerdict::DropStaleToken;
+    }
+    if is_closed(state) {
+        return FenceVerdict::DropClosed;
+    }
+    if is_expired(deadline, now_boot_ns) {
+        return FenceVerdict::DropExpired;
+    }
+    FenceVerdict::Allow
+}
+
+// The verdict on a packet that leaves from a socket, by the first of thirteen rules that applies.
+pub fn gate(
+    config: &[u8],
+    attachment: RootCgroupId,
+    socket: Socket,
+    packet: &[u8],
+    cookie: SocketCookie,
+    current: &[u8],
+    table: &[u8],
+    now_boot_ns: BootNs,
+) -> GateAnswer
+    ensures { λ r. ⌜ answerOf r ≡ gateOf (record {
+        config = now (config .entry);
+        attachment = attachment .0;
+        socket = socket;
+        packet = now (packet .entry);
+        cookie = cookie .0;
+        current = now (current .entry);
+        table = now (table .entry);
+        time = «now_boot_ns» .0;
+    }) ⌝ }
+{
+    let configured = FenceConfig::decode(config);
+    if configured.number != 0 {
+        return GateAnswer {
+            verdict: FenceVerdict::DropMalformed,
+            headers: 0,
+        };
+    }
+    let configuration = configured.value;
+    let endpoint = configuration.endpoint;
+    let root = configuration.root_cgroup_id;
+    if is_elsewhere(attachment, root) {
+        return GateAnswer {
+            verdict: FenceVerdict::DropMalformed,
+            headers: 0,
+        };
+    }
+    let reading = read_source(socket, packet, endpoint);
+    let headers = reading.headers;
+    let disposition = reading.disposition;
+    let verdict = match disposition {
+        PacketEndpointDisposition::Unrelated => FenceVerdict::PassUnrelated,
+        PacketEndpointDisposition::Indeterminate => FenceVerdict::DropMalformed,
+        PacketEndpointDisposition::Protected => authorize(cookie, current, table, now_boot_ns),
+    };
+    GateAnswer { verdict, headers }
+}
