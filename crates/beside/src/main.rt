@@ -7,8 +7,10 @@
 mod codecs;
 mod constructors;
 mod fields;
+mod gates;
 mod leaves;
 mod packets;
+mod verdicts;
 
 use libc::STDERR_FILENO;
 use libc::STDIN_FILENO;
@@ -164,7 +166,10 @@ fn answer(kind: u8, body: &[u8], out: &mut [u8], at: usize) -> usize
     match kind {
         0..=15 => answer_leaf(kind, body, out, at),
         16..=31 => answer_codec(kind, body, out, at),
-        _ => answer_constructor(kind, body, out, at),
+        32..=47 => answer_constructor(kind, body, out, at),
+        48 => verdicts::answer_verdict(body, out, at),
+        56 => gates::answer_gate(body, out, at),
+        _ => 0,
     }
 }
 

@@ -240,14 +240,14 @@ pub fn gate(
     now_boot_ns: BootNs,
 ) -> GateAnswer
     ensures { λ r. ⌜ answerOf r ≡ gateOf (record {
-        config = now (config .entry);
-        attachment = attachment .0;
-        socket = socket;
-        packet = now (packet .entry);
-        cookie = cookie .0;
-        current = now (current .entry);
-        table = now (table .entry);
-        time = «now_boot_ns» .0;
+      config = now (config .entry);
+      attachment = attachment .0;
+      socket = socket;
+      packet = now (packet .entry);
+      cookie = cookie .0;
+      current = now (current .entry);
+      table = now (table .entry);
+      time = «now_boot_ns» .0;
     }) ⌝ }
 {
     let configured = FenceConfig::decode(config);

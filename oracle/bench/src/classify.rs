@@ -54,6 +54,7 @@ fn case(name: &'static str, family: u8, packet: Vec<u8>) -> Case {
     // the answers are compared by their dispositions alone
     Case {
         name,
+        calls: 100_000,
         proved: Box::new(move || unsafe {
             threadwicket_classify(black_box(packet.as_ptr()), packet.len(), family, address, 4500) & 0xff
         }),

@@ -3,16 +3,17 @@
 //!     bench cases             the cases by number; fails where the two sides answer differently
 //!     bench SIDE CASE N       SIDE is `proved` or `rust`: the sum of N answers
 //!
-//! `oracle/bench/run` counts the instructions of 100,000 calls by callgrind, as the difference of two runs.
+//! `oracle/bench/run` counts the instructions of so many calls by callgrind, as the difference of two runs.
 
 mod classify;
 
 use std::hint::black_box;
 use std::process::ExitCode;
 
-/// A case: its name, and each side as a function that is called once.
+/// A case: its name, how many calls are counted, and each side as a function that is called once.
 pub struct Case {
     pub name: &'static str,
+    pub calls: u64,
     pub proved: Box<dyn Fn() -> u32>,
     pub rust: Box<dyn Fn() -> u32>,
 }
@@ -24,7 +25,7 @@ fn cases() -> Vec<Case> {
 fn list(cases: &[Case]) -> ExitCode {
     for (number, case) in cases.iter().enumerate() {
         let (proved, rust) = ((case.proved)(), (case.rust)());
-        println!("{number}\t{}", case.name);
+        println!("{number}\t{}\t{}", case.calls, case.name);
         if proved != rust {
             eprintln!("bench: {}: proved {proved}, Rust {rust}", case.name);
             return ExitCode::FAILURE;

@@ -3,8 +3,10 @@
 mod constructors;
 mod deadline;
 mod endpoint;
+mod gate;
 mod packet;
 mod records;
+mod verdict;
 
 /// How much of a suite is run: a sample, in the gate, or all of it, before a landing.
 #[derive(Clone, Copy, PartialEq, Eq)]
@@ -43,4 +45,6 @@ pub static SUITES: &[Suite] = &[
     records::SUITE,
     constructors::SUITE,
     packet::SUITE,
+    verdict::SUITE,
+    gate::SUITE,
 ];

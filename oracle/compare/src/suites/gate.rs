@@ -1,0 +1,395 @@
+//! The joined gate, kind 56, against the plain gate of `oracle/plain`: the answer is the verdict as in `verdict`, and the headers passed.
+//! A query has the lengths of the configuration and the current record (u8 each), the attachment number, the socket (family, address,
+//! port), cookie and boot time; a filler record and how often it stands before and after the table's own bytes (u16 each); the length
+//! of those (u16); then configuration, current record, the table's own bytes, and the packet.
+
+use super::packet::{self, ipv6, Endpoint};
+use super::records::edge;
+use super::{verdict, Amount, Sink, Suite};
+use crate::rng::Rng;
+use opc_egress_fence_common::*;
+use plain::{config_of, gate, socket_matches, Call, Socket};
+
+const KIND: u8 = 56;
+
+pub const SUITE: Suite = Suite {
+    name: "gate",
+    what: "the joined gate, against a plain one made of the original's parts",
+    outcomes: &[
+        "rule 1", "rule 2", "rule 3", "rule 4", "rule 5", "rule 6", "rule 7", "rule 8", "rule 9", "rule 10", "rule 11", "rule 12",
+        "rule 13",
+    ],
+    run,
+};
+
+#[derive(Clone)]
+struct Asked {
+    config: Vec<u8>,
+    attachment: u64,
+    socket: Endpoint,
+    packet: Vec<u8>,
+    cookie: u64,
+    current: Vec<u8>,
+    filler: [u8; 40],
+    before: u16,
+    own: Vec<u8>,
+    after: u16,
+    now: u64,
+}
+
+impl Asked {
+    fn table(&self) -> Vec<u8> {
+        let mut table = self.filler.repeat(self.before.into());
+        table.extend(&self.own);
+        table.extend(self.filler.repeat(self.after.into()));
+        table
+    }
+
+    fn body(&self) -> Vec<u8> {
+        let mut body = vec![self.config.len() as u8, self.current.len() as u8];
+        body.extend(self.attachment.to_le_bytes());
+        body.extend(self.socket.bytes());
+        body.extend(self.cookie.to_le_bytes());
+        body.extend(self.now.to_le_bytes());
+        body.extend(self.filler);
+        body.extend(self.before.to_le_bytes());
+        body.extend(self.after.to_le_bytes());
+        body.extend((self.own.len() as u16).to_le_bytes());
+        body.extend(&self.config);
+        body.extend(&self.current);
+        body.extend(&self.own);
+        body.extend(&self.packet);
+        body
+    }
+}
+
+fn ask(sink: &mut dyn Sink, it: &Asked) {
+    let table = it.table();
+    let socket = Socket {
+        family: it.socket.family,
+        address: it.socket.address,
+        port: it.socket.port,
+    };
+    let headers = headers(it, &socket);
+    let judged = gate(&Call {
+        config: &it.config,
+        attachment: it.attachment,
+        socket,
+        packet: &it.packet,
+        cookie: it.cookie,
+        current: &it.current,
+        table: &table,
+        now: it.now,
+    });
+    let [slot, dropped] = verdict::answer(judged.verdict);
+    sink.push(
+        KIND,
+        &it.body(),
+        &[slot, dropped, headers],
+        SUITE.outcomes[usize::from(judged.rule) - 1],
+    );
+}
+
+/// 01: "The header count is the packet's under rules 1 and 2 passed and socket differing, else 0."
+fn headers(it: &Asked, socket: &Socket) -> u8 {
+    match config_of(&it.config) {
+        Some(config) if config.root_cgroup_id() == it.attachment && !socket_matches(socket, config.endpoint()) => {
+            let endpoint = match config.endpoint() {
+                ProtectedEndpoint::Ipv4 { address, port } => {
+                    let mut padded = [0; 16];
+                    padded[..4].copy_from_slice(&address);
+                    Endpoint {
+                        family: 4,
+                        address: padded,
+                        port,
+                    }
+                }
+                ProtectedEndpoint::Ipv6 { address, port } => Endpoint {
+                    family: 6,
+                    address,
+                    port,
+                },
+            };
+            packet::read(&it.packet, &endpoint).1
+        }
+        _ => 0,
+    }
+}
+
+fn value(cookie: u64, token: u64, deadline: u64) -> [u8; 40] {
+    let key = FenceCookieKey::new(cookie, token).expect("neither is 0");
+    let entry = FenceEntry::active(token, deadline, 2).expect("the entry is sound");
+    FenceCookieValue::new(key, entry).expect("the tokens agree").encode()
+}
+
+fn config(endpoint: &Endpoint, root: u64) -> Vec<u8> {
+    let endpoint = endpoint.original().expect("the family is 4 or 6");
+    FenceConfig::new(endpoint, root, 4096)
+        .expect("the configuration is sound")
+        .encode()
+        .to_vec()
+}
+
+/// A call that is allowed: 01's case, over IPv4 or over IPv6 with an extension header.
+fn allowed(endpoint: &Endpoint) -> Asked {
+    let udp = [0x11, 0x94, 0, 53, 0, 8, 0, 0];
+    let packet = if endpoint.family == 4 {
+        vec![
+            0x45, 0, 0, 28, 0, 0, 0, 0, 64, 17, 0, 0, 192, 0, 2, 10, 198, 51, 100, 1, 0x11, 0x94, 0, 53, 0, 8, 0, 0,
+        ]
+    } else {
+        ipv6(60, &[&[17, 0, 0, 0, 0, 0, 0, 0], udp.as_slice()].concat())
+    };
+    Asked {
+        config: config(endpoint, 7),
+        attachment: 7,
+        socket: Endpoint {
+            family: 0,
+            address: [0; 16],
+            port: 0,
+        },
+        packet,
+        cookie: 9,
+        current: CurrentFenceToken::registered(3, 9)
+            .expect("the token is odd")
+            .encode()
+            .to_vec(),
+        filler: value(8, 3, 1000),
+        before: 0,
+        own: value(9, 3, 1000).to_vec(),
+        after: 0,
+        now: 999,
+    }
+}
+
+fn run(sink: &mut dyn Sink, amount: Amount) {
+    for endpoint in [packet::IPV4, packet::IPV6] {
+        let base = allowed(&endpoint);
+        each_rule(sink, &base);
+        sockets(sink, &base, &endpoint);
+        tables(sink, &base, amount);
+        cuts(sink, &base);
+    }
+    let mut rng = Rng::new(56);
+    for _ in 0..amount.random(1_000_000) {
+        let endpoint = rng.pick(&[packet::IPV4, packet::IPV6]);
+        let mut it = allowed(&endpoint);
+        for _ in 0..rng.pick(&[0, 1, 1, 1, 2, 2, 3]) {
+            perturb(&mut it, &mut rng, &endpoint);
+        }
+        ask(sink, &it);
+    }
+}
+
+fn each_rule(sink: &mut dyn Sink, base: &Asked) {
+    ask(sink, base);
+    ask(
+        sink,
+        &Asked {
+            config: vec![],
+            ..base.clone()
+        },
+    );
+    ask(
+        sink,
+        &Asked {
+            attachment: 8,
+            ..base.clone()
+        },
+    );
+    ask(
+        sink,
+        &Asked {
+            packet: vec![0x60],
+            ..base.clone()
+        },
+    );
+    ask(
+        sink,
+        &Asked {
+            packet: vec![],
+            ..base.clone()
+        },
+    );
+    ask(
+        sink,
+        &Asked {
+            cookie: 0,
+            ..base.clone()
+        },
+    );
+    ask(
+        sink,
+        &Asked {
+            current: vec![1; 24],
+            ..base.clone()
+        },
+    );
+    ask(
+        sink,
+        &Asked {
+            own: vec![0; 39],
+            ..base.clone()
+        },
+    );
+    ask(
+        sink,
+        &Asked {
+            current: vec![0; 24],
+            ..base.clone()
+        },
+    );
+    for now in [0, 999, 1000, 1001, u64::MAX] {
+        ask(sink, &Asked { now, ..base.clone() });
+    }
+    let retired = CurrentFenceToken::retirement_closed(4).expect("the token is even").encode();
+    ask(
+        sink,
+        &Asked {
+            current: retired.to_vec(),
+            ..base.clone()
+        },
+    );
+    let open = CurrentFenceToken::lifecycle_open(3).expect("the token is odd").encode();
+    ask(
+        sink,
+        &Asked {
+            current: open.to_vec(),
+            ..base.clone()
+        },
+    );
+}
+
+/// Sockets that match, and that differ in one byte, the family or the port, with packets good and bad.
+fn sockets(sink: &mut dyn Sink, base: &Asked, endpoint: &Endpoint) {
+    for packet in [base.packet.clone(), vec![], vec![0x60], vec![0x45; 20]] {
+        let with = |socket: Endpoint| Asked {
+            socket,
+            packet: packet.clone(),
+            ..base.clone()
+        };
+        ask(sink, &with(*endpoint));
+        for family in 0..=255 {
+            ask(sink, &with(Endpoint { family, ..*endpoint }));
+        }
+        for place in 0..16 {
+            let mut address = endpoint.address;
+            address[place] ^= 0x80;
+            ask(sink, &with(Endpoint { address, ..*endpoint }));
+        }
+        for port in [0, 4499, 4501, 0x9411] {
+            ask(sink, &with(Endpoint { port, ..*endpoint }));
+        }
+    }
+}
+
+/// Tables of every length around a record's, and up to and over 4,096 records; the match first, last, twice and absent.
+fn tables(sink: &mut dyn Sink, base: &Asked, amount: Amount) {
+    for length in 0..=121 {
+        let mut own = [base.filler, base.filler, base.filler, base.filler].concat();
+        own.truncate(length);
+        ask(sink, &Asked { own, ..base.clone() });
+    }
+    let counts = if amount == Amount::Full {
+        vec![1, 2, 3, 100, 4094, 4095, 4096, 4097]
+    } else {
+        vec![1, 2, 3, 4095, 4096]
+    };
+    for count in counts {
+        ask(
+            sink,
+            &Asked {
+                before: count,
+                ..base.clone()
+            },
+        );
+        ask(
+            sink,
+            &Asked {
+                after: count,
+                ..base.clone()
+            },
+        );
+        ask(
+            sink,
+            &Asked {
+                before: count,
+                own: vec![],
+                ..base.clone()
+            },
+        );
+        ask(
+            sink,
+            &Asked {
+                before: count,
+                own: [value(9, 3, 999), value(9, 3, 1000)].concat(),
+                ..base.clone()
+            },
+        );
+    }
+    for (first, second) in [(999, 1000), (1000, 999)] {
+        let own = [value(9, 3, first), value(9, 3, second)].concat();
+        ask(sink, &Asked { own, ..base.clone() });
+    }
+    let damaged = |place: usize, byte: u8| {
+        let mut own = base.own.clone();
+        own[place] = byte;
+        Asked { own, ..base.clone() }
+    };
+    for place in 0..40 {
+        for byte in [0, 1, 2, 3, 4, 0xff] {
+            ask(sink, &damaged(place, byte));
+        }
+    }
+}
+
+fn cuts(sink: &mut dyn Sink, base: &Asked) {
+    for length in 0..=41 {
+        let mut it = base.clone();
+        it.config.resize(length, 0);
+        ask(sink, &it);
+        let mut it = base.clone();
+        it.current.resize(length, 0);
+        ask(sink, &it);
+    }
+    for length in 0..base.packet.len() {
+        ask(
+            sink,
+            &Asked {
+                packet: base.packet[..length].to_vec(),
+                ..base.clone()
+            },
+        );
+    }
+}
+
+/// Alters one part of a call.
+fn perturb(it: &mut Asked, rng: &mut Rng, endpoint: &Endpoint) {
+    match rng.below(12) {
+        0 => flip(&mut it.config, rng),
+        1 => flip(&mut it.current, rng),
+        2 => flip(&mut it.own, rng),
+        3 => flip(&mut it.packet, rng),
+        4 => it.packet.truncate(rng.below(it.packet.len() + 1)),
+        5 => it.attachment = edge(rng),
+        6 => it.cookie = rng.pick(&[0, 8, 9, 10]),
+        7 => it.now = rng.pick(&[0, 999, 1000, 1001, u64::MAX]),
+        8 => it.socket = *endpoint,
+        9 => it.before = rng.below(4) as u16,
+        10 => it.own.truncate(rng.below(41)),
+        _ => {
+            it.own = [
+                value(9, 3, 1 + rng.next() % 2000),
+                value(rng.pick(&[8, 9]), rng.pick(&[1, 3]), 1000),
+            ]
+            .concat()
+        }
+    }
+}
+
+fn flip(bytes: &mut [u8], rng: &mut Rng) {
+    if !bytes.is_empty() {
+        let place = rng.below(bytes.len());
+        bytes[place] ^= 1 << rng.below(8);
+    }
+}
