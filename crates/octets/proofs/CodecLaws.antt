@@ -12,7 +12,7 @@ use lib.Dec.{eqb}
 use borrow.Author.Tests.{eqb-true, eq-eqb, ne-eqb, le-leb, lt-leb}
 use Rattle.octets.specs.Octets.{Bytes}
 use Rattle.octets.specs.Layout.{size, fieldsAt, puts, Fit}
-use Rattle.octets.specs.Codec.{Codec, asking, fieldsNumber, fieldsValue, decodeNumber, decodeValue, sound, bytes, encodeNumber, encodeBytes, Built, Decoded, Encoded}
+use Rattle.octets.specs.Codec.{Codec, asking, decodeNumber, decodeValue, sound, bytes, encodeNumber, encodeBytes, Built, Decoded, Encoded}
 use Rattle.octets.proofs.LayoutLaws.{laid-fields, fields-laid, length-laid, puts-laid, put-laid}
 
 -- What a record owes. `Formed v` says that v is a value of its type: each number within its width, each array of its length.
@@ -62,10 +62,6 @@ module _ {R : Type 0} (C : Codec R) {vs : List ℕ} {n : ℕ} {v : R} where
 
   pub built-refused : C .ok vs ≡ false → (n ≡ 2) × (v ≡ C .blank) → Built C vs n v
   built-refused e p = record { number = simp e (p .0); value = simp e (p .1) }
-
-  -- the same of numbers that are equal
-  pub built-of : {ws : List ℕ} → ws ≡ vs → Built C ws n v → Built C vs n v
-  built-of e b = record { number = b .number ∙ ap (fieldsNumber C) e; value = b .value ∙ ap (fieldsValue C) e }
 
   -- the same of a codec that asks what holds
   pub built-asked : (b : Bool) → b ≡ true → Built C vs n v → Built (asking b C) vs n v
