@@ -36,6 +36,7 @@ some-rule-applies (r ∷ rs) c = go (r .applies c) refl (some-rule-applies rs c)
     none-now : (f : Found rs c) → r .applies c ≡ false → None (r ∷ rs) (suc (f .place)) c
     none-now f q zero l = q
     none-now f q (suc m) l = f .none m (omega arith)
+
     go : (b : Bool) → r .applies c ≡ b → Found rs c → Found (r ∷ rs) c
     go true q f = record { place = 0; inside = omega arith; none = λ m l. absurd (omega arith); applies = q; answers = here (r ∷ rs) 0 c q }
     go false q f = record {

@@ -228,6 +228,16 @@ fn authorize(
     FenceVerdict::Allow
 }
 
+// The answer of rules 1 and 2, which look at no packet.
+fn malformed() -> GateAnswer
+    ensures { λ r. ⌜ r ≡ record { verdict = FenceVerdict.DropMalformed; headers = 0 } ⌝ }
+{
+    GateAnswer {
+        verdict: FenceVerdict::DropMalformed,
+        headers: 0,
+    }
+}
+
 // The verdict on a packet that leaves from a socket, by the first of thirteen rules that applies.
 pub fn gate(
     config: &[u8],
@@ -240,31 +250,25 @@ pub fn gate(
     now_boot_ns: BootNs,
 ) -> GateAnswer
     ensures { λ r. ⌜ answerOf r ≡ gateOf (record {
-        config = now (config .entry);
-        attachment = attachment .0;
-        socket = socket;
-        packet = now (packet .entry);
-        cookie = cookie .0;
-        current = now (current .entry);
-        table = now (table .entry);
-        time = «now_boot_ns» .0;
+      config = now (config .entry);
+      attachment = attachment .0;
+      socket = socket;
+      packet = now (packet .entry);
+      cookie = cookie .0;
+      current = now (current .entry);
+      table = now (table .entry);
+      time = «now_boot_ns» .0;
     }) ⌝ }
 {
     let configured = FenceConfig::decode(config);
     if configured.number != 0 {
-        return GateAnswer {
-            verdict: FenceVerdict::DropMalformed,
-            headers: 0,
-        };
+        return malformed();
     }
     let configuration = configured.value;
     let endpoint = configuration.endpoint;
     let root = configuration.root_cgroup_id;
     if is_elsewhere(attachment, root) {
-        return GateAnswer {
-            verdict: FenceVerdict::DropMalformed,
-            headers: 0,
-        };
+        return malformed();
     }
     let reading = read_source(socket, packet, endpoint);
     let headers = reading.headers;
