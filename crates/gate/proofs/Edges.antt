@@ -105,8 +105,8 @@ alike = record {
   time = refl;
   long = refl;
   agree = refl;
-  table = refl;
-  other = refl;
+  first-table = refl;
+  second-table = refl;
   found = λ _. refl;
 }
 
