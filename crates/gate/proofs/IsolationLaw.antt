@@ -88,7 +88,7 @@ module _ (a b : Call) (h : Alike a b) where
       step 3 a b (λ i. same-differs i && eqb (same-reading i .disposition) 2) (λ _.
       step 4 a b (λ i. eqb (h .cookie i) 0) (λ k.
       step 5 a b (λ i. not (decodes currentCodec (h .current i))) (λ c.
-      step 6 a b (ap not (h .table ∙ sym (h .other))) (λ _. looked-up k c)))))))
+      step 6 a b (ap not (h .first-table ∙ sym (h .second-table))) (λ _. looked-up k c)))))))
 
   same-headers : headersOf a ≡ headersOf b
   unfolding headersOf

@@ -5,3 +5,5 @@ pub mod Unique
 pub mod Rules
 pub mod IsolationLaw
 pub mod DecidedLaw
+pub mod Witnesses
+pub mod Edges

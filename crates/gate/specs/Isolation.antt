@@ -27,8 +27,8 @@ pub record Alike (a b : Call) : Type 0 where
   pub long : length (a .packet) ≡ length (b .packet)
   pub agree : bytesAt (a .packet) (places (a .packet) (endpoint a)) ≡ bytesAt (b .packet) (places (a .packet) (endpoint a))
   -- both tables of admissible length
-  pub table : admissible (a .table) ≡ true
-  pub other : admissible (b .table) ≡ true
+  pub first-table : admissible (a .table) ≡ true
+  pub second-table : admissible (b .table) ≡ true
   -- if a key is sought, the same first record under it, or none in both: a record has forty bytes, none has no bytes
   pub found : keySought a ≡ true → firstOf (sought a) ≡ firstOf (sought b)
 

@@ -63,11 +63,11 @@ pub fn find_record(table: &[u8], cookie: SocketCookie, token: DurableFenceToken)
     let last = table.len() - FenceCookieValue::LEN;
     let mut at = 0;
     while at <= last {
-        let one = &table[at..at + 40];
+        let one = &table[at..at + FenceCookieValue::LEN];
         if is_under(one, k, t) {
             return one;
         }
-        at += 40;
+        at += FenceCookieValue::LEN;
     }
     &table[..0]
 }
@@ -132,7 +132,7 @@ fn read_source(socket: Socket, packet: &[u8], endpoint: ProtectedEndpoint) -> Pa
 fn is_admissible(table: &[u8]) -> bool
     ensures { λ r. ⌜ r ≡ admissible (now (table .entry)) ⌝ }
 {
-    if table.len() % 40 != 0 {
+    if table.len() % FenceCookieValue::LEN != 0 {
         return false;
     }
     table.len() <= MAX_TABLE_LEN
@@ -161,7 +161,7 @@ fn is_stale(registered: SocketCookie, cookie: SocketCookie) -> bool
     own != current
 }
 
-// Rule 11.
+// Rule 11: every state but Active is closed.
 fn is_closed(state: FenceEntryState) -> bool
     ensures { λ r. ⌜ r ≡ closed state ⌝ }
 {
@@ -228,6 +228,16 @@ fn authorize(
     FenceVerdict::Allow
 }
 
+// The answer of rules 1 and 2, which look at no packet.
+fn malformed() -> GateAnswer
+    ensures { λ r. ⌜ r ≡ record { verdict = FenceVerdict.DropMalformed; headers = 0 } ⌝ }
+{
+    GateAnswer {
+        verdict: FenceVerdict::DropMalformed,
+        headers: 0,
+    }
+}
+
 // The verdict on a packet that leaves from a socket, by the first of thirteen rules that applies.
 pub fn gate(
     config: &[u8],
@@ -252,19 +262,13 @@ pub fn gate(
 {
     let configured = FenceConfig::decode(config);
     if configured.number != 0 {
-        return GateAnswer {
-            verdict: FenceVerdict::DropMalformed,
-            headers: 0,
-        };
+        return malformed();
     }
     let configuration = configured.value;
     let endpoint = configuration.endpoint;
     let root = configuration.root_cgroup_id;
     if is_elsewhere(attachment, root) {
-        return GateAnswer {
-            verdict: FenceVerdict::DropMalformed,
-            headers: 0,
-        };
+        return malformed();
     }
     let reading = read_source(socket, packet, endpoint);
     let headers = reading.headers;

@@ -1,8 +1,7 @@
--- The laws of `packet`: the answer is the contract's alone, the count, the sorting, isolation, and document 01's examples.
+-- The laws of `packet`: the answer is the contract's alone, the count, the sorting and isolation.
 -- Assumes nothing.
 pub mod Laws
 pub mod Unique
 pub mod Count
 pub mod Sorting
 pub mod Isolation
-pub mod Examples

@@ -11,7 +11,7 @@ use Rattle.packet.specs.Answers as packet
 use Rattle.packet.specs.declared.PacketEndpointDisposition.{PacketEndpointDisposition}
 use Rattle.packet.specs.declared.PacketEndpointDisposition.the-variants.{Protected, Unrelated, Indeterminate}
 use Rattle.verdict.specs.Verdict.{slotOf}
-use Rattle.gate.specs.Gate.{Call, rules, firstRule, decodes, configuration, endpoint, root, differs, reading, sourceOf, headersOf}
+use Rattle.gate.specs.Gate.{Call, rules, firstRule, decodes, configuration, endpoint, root, differs, reading, sourceOf, headersOf, answerOf}
 use Rattle.gate.proofs.RuleLaws.{over, here, decoded, undecoded, source-is, answered, headers-1, headers-2, headers-read}
 use Rattle.gate.proofs.gate.Statement.{statement}
 use Rattle.gate.proofs.gate.Tie as tie
@@ -68,20 +68,25 @@ past2 : (a : tie.After-read-source) → firstRule rules (call3 a) ≡ firstRule 
 unfolding rules
 past2 a = over rules 0 (call3 a) (rule1 (a .before .before)) ∙ over rules 1 (call3 a) (passed2 a)
 
+past4 : (a : tie.After-read-source) → a .read-source .result .disposition ≡ Protected → firstRule rules (call3 a) ≡ firstRule (drop 4 rules) (call3 a)
+unfolding rules
+past4 a told = past2 a ∙ over rules 2 (call3 a) (disposed a Protected 1 refl told) ∙ over rules 3 (call3 a) (disposed a Protected 2 refl told)
+
 -- ---- the rule that answers
 
 returns : tie.Need-returns
 unfolding rules
 returns c =
-    let a = c .before in
-    let applies = undecoded configCodec (a .before .decode .ensures) (c .if1 .taken) in
-    answered (call a) _ 0 (ap (λ r. slotOf (r .verdict)) (sym (here rules 0 (call a) applies))) (headers-1 (call a) applies)
+    let a = c .before .before in
+    let applies = undecoded configCodec (a .before .decode .ensures) (c .before .if1 .taken) in
+    ap answerOf (c .malformed .ensures) ∙ answered (call a) _ 0 (ap (λ r. slotOf (r .verdict)) (sym (here rules 0 (call a) applies))) (headers-1 (call a) applies)
 
 returns-2 : tie.Need-returns-2
 unfolding rules
 returns-2 c =
-    let a = c .before in
-    let applies = rule2 a ∙ c .if2 .taken in
+    let a = c .before .before in
+    let applies = rule2 a ∙ c .before .if2 .taken in
+    ap answerOf (c .malformed2 .ensures) ∙
     answered (call2 a) _ 0 (ap (λ r. slotOf (r .verdict)) (sym (over rules 0 (call2 a) (rule1 a) ∙ here rules 1 (call2 a) applies)))
     (headers-2 (call2 a) (rule1 a) applies)
 
@@ -105,15 +110,16 @@ unfolding rules
 returns-5 c =
     let a = c .before .before .before in
     let told = c .before .enum-told3 .given .1 in
-    let past = past2 a ∙ over rules 2 (call3 a) (disposed a Protected 1 refl told) ∙ over rules 3 (call3 a) (disposed a Protected 2 refl told) in
-    answered (call3 a) _ _ (c .authorize .ensures ∙ ap (λ r. slotOf (r .verdict)) (sym past)) (counted a)
+    answered (call3 a) _ _ (rw (past4 a told) (c .authorize .ensures)) (counted a)
 
 pub gate-spec : {M : Type 1} → statement M
 gate-spec =
     tie.close
     (tie.spec
     (λ c κs. search needs)
+    (λ c κs. search needs)
     returns
+    (λ c κs. search needs)
     (λ c κs. search needs)
     returns-2
     (λ c κs. search needs)

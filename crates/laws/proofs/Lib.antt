@@ -1,0 +1,2 @@
+-- What spans the layers. Assumes nothing.
+pub mod Examples
