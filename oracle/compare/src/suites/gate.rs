@@ -122,6 +122,19 @@ fn value(cookie: u64, token: u64, deadline: u64) -> [u8; 40] {
     FenceCookieValue::new(key, entry).expect("the tokens agree").encode()
 }
 
+/// The socket's own record in one of the three closed states.
+fn closed(state: usize) -> [u8; 40] {
+    let entry = [
+        FenceEntry::initial_closed(3),
+        FenceEntry::terminal_closed(3, 2),
+        FenceEntry::reclaiming(3, 2),
+    ][state];
+    let key = FenceCookieKey::new(9, 3).expect("neither is 0");
+    FenceCookieValue::new(key, entry.expect("the entry is sound"))
+        .expect("the tokens agree")
+        .encode()
+}
+
 fn config(endpoint: &Endpoint, root: u64) -> Vec<u8> {
     let endpoint = endpoint.original().expect("the family is 4 or 6");
     FenceConfig::new(endpoint, root, 4096)
@@ -241,6 +254,15 @@ fn each_rule(sink: &mut dyn Sink, base: &Asked) {
     );
     for now in [0, 999, 1000, 1001, u64::MAX] {
         ask(sink, &Asked { now, ..base.clone() });
+    }
+    for state in 0..3 {
+        ask(
+            sink,
+            &Asked {
+                own: closed(state).to_vec(),
+                ..base.clone()
+            },
+        );
     }
     let retired = CurrentFenceToken::retirement_closed(4).expect("the token is even").encode();
     ask(
@@ -365,7 +387,7 @@ fn cuts(sink: &mut dyn Sink, base: &Asked) {
 
 /// Alters one part of a call.
 fn perturb(it: &mut Asked, rng: &mut Rng, endpoint: &Endpoint) {
-    match rng.below(12) {
+    match rng.below(13) {
         0 => flip(&mut it.config, rng),
         1 => flip(&mut it.current, rng),
         2 => flip(&mut it.own, rng),
@@ -377,6 +399,7 @@ fn perturb(it: &mut Asked, rng: &mut Rng, endpoint: &Endpoint) {
         8 => it.socket = *endpoint,
         9 => it.before = rng.below(4) as u16,
         10 => it.own.truncate(rng.below(41)),
+        11 => it.own = closed(rng.below(3)).to_vec(),
         _ => {
             it.own = [
                 value(9, 3, 1 + rng.next() % 2000),
