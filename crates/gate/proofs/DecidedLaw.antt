@@ -25,7 +25,7 @@ use Rattle.gate.specs.Table.{admissible, isUnder, firstOf}
 use Rattle.gate.specs.Gate.{Call, Rule, rules, firstRule, answering, decodes, matches, stale, expired, configuration, endpoint, root, differs, reading, inForce, token, registered, sought, value, gateOf}
 use Rattle.gate.specs.Decided.{undecoded, dispositionOf, contextOf, entryIn, snapshotOf, Decided}
 use Rattle.gate.proofs.TableLaws.{first-found}
-use Rattle.gate.proofs.RuleLaws.{at, over, here}
+use Rattle.gate.proofs.RuleLaws.{at, over, here, or-left, or-right}
 use Rattle.gate.proofs.Dispositions.{disposition-at-most-2, disposed}
 
 -- the slot of the rule that answers, and that it is none of those that answer for bytes
@@ -50,14 +50,7 @@ cases n c x f g j = go (at rules n .applies c) refl
         let e = over rules n c q in
         ap (λ r. slotOf (r .verdict)) e ∙ g q (sym (ap (λ r. undecoded (r .number)) e) ∙ j)
 
-or-left : (x y : Bool) → (x || y) ≡ false → x ≡ false
-or-left true y e = e
-or-left false y e = refl
-
-or-right : (x y : Bool) → (x || y) ≡ false → y ≡ false
-or-right true y e = absurd (true≢false e)
-or-right false y e = e
-
+-- a third test that never holds adds nothing
 or-none : (x y : Bool) → (x || (y || false)) ≡ (x || y)
 or-none true y = refl
 or-none false true = refl

@@ -19,7 +19,7 @@ use Rattle.verdict.specs.Verdict.{slotOf}
 use Rattle.gate.specs.Table.{admissible, firstOf}
 use Rattle.gate.specs.Gate.{Call, Rule, rules, firstRule, answering, decodes, matches, stale, expired, configuration, endpoint, root, differs, reading, inForce, token, registered, sought, value, headersOf, gateOf}
 use Rattle.gate.specs.Isolation.{keySought, Alike, Isolated}
-use Rattle.gate.proofs.RuleLaws.{at, over, here, none-found}
+use Rattle.gate.proofs.RuleLaws.{at, over, here, or-left, none-found}
 
 -- a rule that applies to both or to neither, and if to neither the rules after it answer alike
 step : (n : ℕ) (a b : Call) → at rules n .applies a ≡ at rules n .applies b →
@@ -35,10 +35,6 @@ either true true p q e f = refl
 either true false p q e f = absurd (true≢false e)
 either false true p q e f = absurd (true≢false (sym e))
 either false false p q e f = f refl
-
-or-left : (x y : Bool) → (x || y) ≡ false → x ≡ false
-or-left true y e = e
-or-left false y e = refl
 
 module _ (a b : Call) (h : Alike a b) where
   same-config : configuration a ≡ configuration b

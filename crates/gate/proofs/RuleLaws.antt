@@ -43,6 +43,15 @@ here (r ∷ rs) (suc n) c e = here rs n c e
 
 -- ---- the tests
 
+-- of two tests, neither of which holds
+pub or-left : (x y : Bool) → (x || y) ≡ false → x ≡ false
+or-left true y e = e
+or-left false y e = refl
+
+pub or-right : (x y : Bool) → (x || y) ≡ false → y ≡ false
+or-right true y e = absurd (true≢false e)
+or-right false y e = e
+
 -- of a decoder's number
 module _ {R : Type 0} (C : Codec R) {s : List ℕ} {n : ℕ} {v : R} (d : Decoded C s n v) where
   pub decoded : n ≡ 0 → not (decodes C s) ≡ false
