@@ -3,17 +3,15 @@
 -- order, and each answers as the decision's test of the same place does. Assumes nothing.
 use Prim.Native.Nat.{ℕ, suc}
 use mathlib.Core.Path.{_≡_, refl, sym, ap, _∙_}
-use mathlib.Core.Bool.{Bool, true, false, cond, not, _&&_, _||_, true≢false}
-use mathlib.Core.List.{List, [], _∷_}
+use mathlib.Core.Bool.{Bool, true, false, cond, not, _||_, true≢false}
+use mathlib.Core.List.{List}
 use lib.ListN.{length, drop}
 use lib.Dec.{eqb}
-use borrow.Author.Tests.{eq-eqb, eqb-true, eqb-false, not-true, not-false}
+use borrow.Author.Tests.{eq-eqb, eqb-true, eqb-false, not-false}
 use Rattle.octets.specs.Octets.{octetsAt, le}
 use Rattle.octets.specs.Layout.{fieldsAt}
 use Rattle.octets.specs.Codec.{decodeNumber, decodeValue}
 use Rattle.octets.proofs.CodecLaws.{and-right}
-use Rattle.records.specs.Config.{configCodec}
-use Rattle.records.specs.Current.{currentCodec}
 use Rattle.records.specs.Entry.{closed}
 use Rattle.records.specs.CookieValue.{cookieValueCodec, entryOf}
 use Rattle.packet.specs.Answers.{dispositionNumber}
@@ -21,8 +19,8 @@ use Rattle.verdict.specs.Verdict.{slotOf, staleAuthority, entryVerdict, registe
 use Rattle.verdict.specs.declared.CounterSlot.{CounterSlot}
 use Rattle.verdict.specs.declared.FenceVerdict.the-variants.{DropStaleToken}
 use Rattle.verdict.specs.declared.RegisteredEntry.the-variants.{Present}
-use Rattle.gate.specs.Table.{admissible, isUnder, firstOf}
-use Rattle.gate.specs.Gate.{Call, Rule, rules, firstRule, answering, decodes, matches, stale, expired, configuration, endpoint, root, differs, reading, inForce, token, registered, sought, value, gateOf}
+use Rattle.gate.specs.Table.{isUnder, firstOf}
+use Rattle.gate.specs.Gate.{Call, Rule, rules, firstRule, answering, decodes, stale, expired, endpoint, reading, token, registered, sought, value, gateOf}
 use Rattle.gate.specs.Decided.{undecoded, dispositionOf, contextOf, entryIn, snapshotOf, Decided}
 use Rattle.gate.proofs.TableLaws.{first-found}
 use Rattle.gate.proofs.RuleLaws.{at, over, here, or-left, or-right}

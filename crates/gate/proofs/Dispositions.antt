@@ -2,7 +2,7 @@
 -- so a walk does, by induction on the allowance. Assumes nothing.
 use Prim.Native.Nat.{ℕ, zero, suc, _+_, _≤_}
 use mathlib.Core.Path.{_≡_, refl}
-use mathlib.Core.Bool.{Bool, cond, not, _||_}
+use mathlib.Core.Bool.{not, _||_}
 use mathlib.Core.List.{List}
 use native.Mathlib.Omega.{arith}
 use lib.ListN.{length}
@@ -14,7 +14,7 @@ use Rattle.packet.specs.Rfc791 as ip4
 use Rattle.packet.specs.Rfc768 as udp
 use Rattle.packet.specs.Rfc8200 as ip6
 use Rattle.packet.specs.Rfc4302 as ah
-use Rattle.packet.specs.Reading.{Answer, Outcome, settled, onward, follow, stop, passed, sortOf, udpOf, passOf, countedOf, fragmentOf, stepOf, walkOf, ipv4Head, ipv4Of, ipv6Head, ipv6Of, known, classifyOf}
+use Rattle.packet.specs.Reading.{Answer, Outcome, settled, onward, follow, stop, sortOf, udpOf, passOf, countedOf, fragmentOf, stepOf, walkOf, ipv4Head, ipv4Of, ipv6Head, ipv6Of, known, classifyOf}
 use Rattle.packet.proofs.Laws.{cond-all}
 use Rattle.gate.specs.Decided.{dispositionOf}
 

@@ -4,11 +4,10 @@
 use Prim.Native.Nat.{ℕ, suc}
 use mathlib.Core.Path.{_≡_, refl, sym, ap, _∙_}
 use mathlib.Core.Bool.{Bool, true, false, cond, not, _&&_, _||_, true≢false}
-use mathlib.Core.List.{List, [], _∷_}
 use lib.ListN.{length, drop}
 use lib.Dec.{eqb}
 use borrow.Author.Tests.{not-false}
-use Rattle.octets.specs.Codec.{decodeNumber, decodeValue}
+use Rattle.octets.specs.Codec.{decodeValue}
 use Rattle.records.specs.Config.{configCodec}
 use Rattle.records.specs.Current.{currentCodec}
 use Rattle.records.specs.Entry.{closed}
@@ -16,8 +15,8 @@ use Rattle.records.specs.CookieValue.{cookieValueCodec}
 use Rattle.packet.specs.Reading.{classifyOf}
 use Rattle.packet.proofs.Isolation as packet
 use Rattle.verdict.specs.Verdict.{slotOf}
-use Rattle.gate.specs.Table.{admissible, firstOf}
-use Rattle.gate.specs.Gate.{Call, Rule, rules, firstRule, answering, decodes, matches, stale, expired, configuration, endpoint, root, differs, reading, inForce, token, registered, sought, value, headersOf, gateOf}
+use Rattle.gate.specs.Table.{firstOf}
+use Rattle.gate.specs.Gate.{Call, rules, firstRule, answering, decodes, matches, stale, expired, configuration, endpoint, differs, reading, inForce, token, sought, value, headersOf, gateOf}
 use Rattle.gate.specs.Isolation.{keySought, Alike, Isolated}
 use Rattle.gate.proofs.RuleLaws.{at, over, here, or-left, none-found}
 
