@@ -3,30 +3,28 @@
 -- order, and each answers as the decision's test of the same place does. Assumes nothing.
 use Prim.Native.Nat.{ℕ, suc}
 use mathlib.Core.Path.{_≡_, refl, sym, ap, _∙_}
-use mathlib.Core.Bool.{Bool, true, false, cond, not, _&&_, _||_, true≢false}
-use mathlib.Core.List.{List, [], _∷_}
+use mathlib.Core.Bool.{Bool, true, false, cond, not, _||_, true≢false}
+use mathlib.Core.List.{List}
 use lib.ListN.{length, drop}
 use lib.Dec.{eqb}
-use borrow.Author.Tests.{eq-eqb, eqb-true, eqb-false, not-true, not-false}
+use borrow.Author.Tests.{eq-eqb, eqb-true, eqb-false, not-false}
 use Rattle.octets.specs.Octets.{octetsAt, le}
 use Rattle.octets.specs.Layout.{fieldsAt}
 use Rattle.octets.specs.Codec.{decodeNumber, decodeValue}
 use Rattle.octets.proofs.CodecLaws.{and-right}
-use Rattle.records.specs.Config.{configCodec}
-use Rattle.records.specs.Current.{currentCodec}
 use Rattle.records.specs.Entry.{closed}
 use Rattle.records.specs.CookieValue.{cookieValueCodec, entryOf}
 use Rattle.packet.specs.Answers.{dispositionNumber}
-use Rattle.packet.specs.declared.PacketEndpointDisposition.{PacketEndpointDisposition}
 use Rattle.verdict.specs.Verdict.{slotOf, staleAuthority, entryVerdict, registeredVerdict, protectedVerdict, egressVerdict}
 use Rattle.verdict.specs.declared.CounterSlot.{CounterSlot}
 use Rattle.verdict.specs.declared.FenceVerdict.the-variants.{DropStaleToken}
 use Rattle.verdict.specs.declared.RegisteredEntry.the-variants.{Present}
-use Rattle.gate.specs.Table.{admissible, isUnder, firstOf}
-use Rattle.gate.specs.Gate.{Call, Rule, rules, firstRule, answering, decodes, matches, stale, expired, configuration, endpoint, root, differs, reading, inForce, token, registered, sought, value, gateOf}
-use Rattle.gate.specs.Decided.{undecoded, contextOf, entryIn, snapshotOf, Decided}
+use Rattle.gate.specs.Table.{isUnder, firstOf}
+use Rattle.gate.specs.Gate.{Call, Rule, rules, firstRule, answering, decodes, stale, expired, endpoint, reading, token, registered, sought, value, gateOf}
+use Rattle.gate.specs.Decided.{undecoded, dispositionOf, contextOf, entryIn, snapshotOf, Decided}
 use Rattle.gate.proofs.TableLaws.{first-found}
-use Rattle.gate.proofs.RuleLaws.{at, over, here}
+use Rattle.gate.proofs.RuleLaws.{at, over, here, or-left, or-right}
+use Rattle.gate.proofs.Dispositions.{disposition-at-most-2, disposed}
 
 -- the slot of the rule that answers, and that it is none of those that answer for bytes
 abbrev Slot : List Rule → Call → CounterSlot
@@ -50,14 +48,7 @@ cases n c x f g j = go (at rules n .applies c) refl
         let e = over rules n c q in
         ap (λ r. slotOf (r .verdict)) e ∙ g q (sym (ap (λ r. undecoded (r .number)) e) ∙ j)
 
-or-left : (x y : Bool) → (x || y) ≡ false → x ≡ false
-or-left true y e = e
-or-left false y e = refl
-
-or-right : (x y : Bool) → (x || y) ≡ false → y ≡ false
-or-right true y e = absurd (true≢false e)
-or-right false y e = e
-
+-- a third test that never holds adds nothing
 or-none : (x y : Bool) → (x || (y || false)) ≡ (x || y)
 or-none true y = refl
 or-none false true = refl
@@ -86,7 +77,7 @@ sought-token : (k t : ℕ) (r : List ℕ) → isUnder k t r ≡ true → le (oct
 unfolding isUnder
 sought-token k t r e = eqb-true _ _ (and-right (eqb (le (octetsAt r 8 8)) k) _ e)
 
-module _ (c : Call) (d : PacketEndpointDisposition) (h : dispositionNumber d ≡ reading c .disposition) where
+module _ (c : Call) where
   -- rules 10 to 13: the entry is the current one, so lib.rs's test for another asks no more than rule 10
   abbrev Missing : Bool
   Missing = eqb (token c) 0 || eqb (length (sought c)) 0
@@ -121,14 +112,17 @@ module _ (c : Call) (d : PacketEndpointDisposition) (h : dispositionNumber d ≡
       cases 7 c _ (λ m _. rw (q, m)) (λ m.
       cases 8 c _ (λ _ j. absurd (true≢false j)) (λ e _. rw q (judged m (not-false (decodes cookieValueCodec (firstOf (sought c))) e)))))))
 
-  decided : Judged (firstRule rules c) → Slot rules c ≡ egressVerdict (contextOf c d) (snapshotOf c)
+  read-as : dispositionNumber (dispositionOf (reading c .disposition)) ≡ reading c .disposition
+  read-as = disposed (reading c .disposition) (disposition-at-most-2 (c .packet) (endpoint c))
+
+  decided : Judged (firstRule rules c) → Slot rules c ≡ egressVerdict (contextOf c) (snapshotOf c)
   unfolding rules egressVerdict
   decided =
       cases 0 c _ (λ _ j. absurd (true≢false j)) (λ _.
       cases 1 c _ (λ v _. rw v) (λ v.
-      cases 2 c _ (λ u _. rw (v, h, u)) (λ u.
-      cases 3 c _ (λ i _. rw (v, h, u, i)) (λ i j. rw (v, h, u, i) (looked-up j)))))
+      cases 2 c _ (λ u _. rw (v, read-as, u)) (λ u.
+      cases 3 c _ (λ i _. rw (v, read-as, u, i)) (λ i j. rw (v, read-as, u, i) (looked-up j)))))
 
 pub is-decide-egress : Decided
 unfolding gateOf answering
-is-decide-egress c d h j = decided c d h j
+is-decide-egress c j = decided c j

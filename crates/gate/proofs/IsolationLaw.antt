@@ -4,11 +4,10 @@
 use Prim.Native.Nat.{ℕ, suc}
 use mathlib.Core.Path.{_≡_, refl, sym, ap, _∙_}
 use mathlib.Core.Bool.{Bool, true, false, cond, not, _&&_, _||_, true≢false}
-use mathlib.Core.List.{List, [], _∷_}
 use lib.ListN.{length, drop}
 use lib.Dec.{eqb}
 use borrow.Author.Tests.{not-false}
-use Rattle.octets.specs.Codec.{decodeNumber, decodeValue}
+use Rattle.octets.specs.Codec.{decodeValue}
 use Rattle.records.specs.Config.{configCodec}
 use Rattle.records.specs.Current.{currentCodec}
 use Rattle.records.specs.Entry.{closed}
@@ -16,10 +15,10 @@ use Rattle.records.specs.CookieValue.{cookieValueCodec}
 use Rattle.packet.specs.Reading.{classifyOf}
 use Rattle.packet.proofs.Isolation as packet
 use Rattle.verdict.specs.Verdict.{slotOf}
-use Rattle.gate.specs.Table.{admissible, firstOf}
-use Rattle.gate.specs.Gate.{Call, Rule, rules, firstRule, answering, decodes, matches, stale, expired, configuration, endpoint, root, differs, reading, inForce, token, registered, sought, value, headersOf, gateOf}
+use Rattle.gate.specs.Table.{firstOf}
+use Rattle.gate.specs.Gate.{Call, rules, firstRule, answering, decodes, matches, stale, expired, configuration, endpoint, differs, reading, inForce, token, sought, value, headersOf, gateOf}
 use Rattle.gate.specs.Isolation.{keySought, Alike, Isolated}
-use Rattle.gate.proofs.RuleLaws.{at, over, here, none-found}
+use Rattle.gate.proofs.RuleLaws.{at, over, here, or-left, none-found}
 
 -- a rule that applies to both or to neither, and if to neither the rules after it answer alike
 step : (n : ℕ) (a b : Call) → at rules n .applies a ≡ at rules n .applies b →
@@ -35,10 +34,6 @@ either true true p q e f = refl
 either true false p q e f = absurd (true≢false e)
 either false true p q e f = absurd (true≢false (sym e))
 either false false p q e f = f refl
-
-or-left : (x y : Bool) → (x || y) ≡ false → x ≡ false
-or-left true y e = e
-or-left false y e = refl
 
 module _ (a b : Call) (h : Alike a b) where
   same-config : configuration a ≡ configuration b

@@ -1,6 +1,6 @@
 -- The laws of the list of rules: the first rule that applies answers, one law over the list and the place; and what each test of the
 -- gate's code says of the rule that it stands for. Assumes nothing.
-use Prim.Native.Nat.{ℕ, zero, suc, _<_}
+use Prim.Native.Nat.{ℕ, zero, suc}
 use mathlib.Core.Path.{_≡_, refl, sym, ap, _∙_}
 use mathlib.Core.Bool.{Bool, true, false, cond, not, _&&_, _||_, true≢false}
 use mathlib.Core.List.{List, [], _∷_}
@@ -8,17 +8,15 @@ use native.Mathlib.Omega.{arith}
 use lib.ListN.{length, drop}
 use lib.Dec.{eqb}
 use borrow.Author.Tests.{eq-eqb, ne-eqb, eqb-true, eqb-false, not-true, not-false}
-use Rattle.octets.specs.Codec.{Codec, Decoded, decodeNumber, decodeValue}
+use Rattle.octets.specs.Codec.{Codec, Decoded}
 use Rattle.endpoint.specs.declared.ProtectedEndpoint.{ProtectedEndpoint}
-use Rattle.records.specs.Current.{currentCodec}
-use Rattle.records.specs.declared.current.CurrentFenceToken.{CurrentFenceToken}
 use Rattle.packet.specs.Reading.{classifyOf}
 use Rattle.gate.specs.declared.Socket.{Socket}
 use Rattle.gate.specs.Table.{records, under, firstOf}
 use Rattle.records.specs.Config.{configCodec}
 use Rattle.verdict.specs.Verdict.{slotOf}
 use Rattle.verdict.specs.declared.CounterSlot.{CounterSlot}
-use Rattle.gate.specs.Gate.{Call, Rule, allow, rules, firstRule, answering, decodes, matches, root, endpoint, headersOf, Answer, gateOf, sourceOf, soughtRecord}
+use Rattle.gate.specs.Gate.{Call, Rule, allow, rules, firstRule, answering, decodes, matches, root, endpoint, headersOf, gateOf, sourceOf, soughtRecord}
 use Rattle.gate.proofs.TableLaws.{first-found}
 
 -- ---- the list
@@ -42,6 +40,15 @@ here (r ∷ rs) zero c e = simp e
 here (r ∷ rs) (suc n) c e = here rs n c e
 
 -- ---- the tests
+
+-- of two tests, neither of which holds
+pub or-left : (x y : Bool) → (x || y) ≡ false → x ≡ false
+or-left true y e = e
+or-left false y e = refl
+
+pub or-right : (x y : Bool) → (x || y) ≡ false → y ≡ false
+or-right true y e = absurd (true≢false e)
+or-right false y e = e
 
 -- of a decoder's number
 module _ {R : Type 0} (C : Codec R) {s : List ℕ} {n : ℕ} {v : R} (d : Decoded C s n v) where

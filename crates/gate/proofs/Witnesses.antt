@@ -2,9 +2,9 @@
 -- first line of document 01's case, and each other call differs from it in what its rule looks at. Assumes nothing.
 use Prim.Native.Nat.{ℕ}
 use mathlib.Core.Path.{_≡_, refl}
-use mathlib.Core.Bool.{true, false}
+use mathlib.Core.Bool.{false}
 use mathlib.Core.List.{List, [], _∷_, _++_}
-use lib.ListN.{set, replicate, drop}
+use lib.ListN.{set, replicate}
 use Rattle.octets.specs.Octets.{octetsAt, le, be, leBytes, beBytes, allZero, sameOctets}
 use Rattle.octets.specs.Codec.{bytes, decodeNumber, decodeValue}
 use Rattle.endpoint.specs.Endpoint.{usableIpv4, usableIpv6, soundEndpoint}
@@ -15,13 +15,9 @@ use Rattle.records.specs.Entry.{stateRule}
 use Rattle.records.specs.CookieValue.{cookieValueRule, cookieValue, cookieValueCodec}
 use Rattle.records.specs.declared.entry.FenceEntryState.the-variants.{Active, TerminalClosed}
 use Rattle.packet.specs.Reading.{sortOf, udpOf, passOf, countedOf, fragmentOf, stepOf, walkOf, ipv4Head, ipv6Head, known, classifyOf}
-use Rattle.packet.specs.Places.{bytesAt, inside, udpPlaces, named}
-use Rattle.verdict.specs.declared.CounterSlot.{CounterSlot}
-use Rattle.verdict.specs.declared.CounterSlot.the-variants.{Uncounted, Slot}
 use Rattle.gate.specs.declared.Socket.{Socket}
 use Rattle.gate.specs.Table.{admissible, recordsIn, records, isUnder, under, firstOf}
-use Rattle.gate.specs.Gate.{Call, Rule, rules, answering, sameAddress, matches, headersOf, Answer, gateOf}
-use Rattle.gate.specs.Isolation.{Alike}
+use Rattle.gate.specs.Gate.{Call, rules, answering, sameAddress, matches}
 
 -- 192.0.2.10:4500, and 01's packet A from there
 unfoldable pub endpoint4500 : ProtectedEndpoint

@@ -9,7 +9,7 @@ use lib.Dec.{eqb}
 use Rattle.records.specs.CookieValue.{entryOf}
 use Rattle.packet.specs.Reading.{among}
 use Rattle.packet.specs.declared.PacketEndpointDisposition.{PacketEndpointDisposition}
-use Rattle.packet.specs.Answers.{dispositionNumber}
+use Rattle.packet.specs.declared.PacketEndpointDisposition.the-variants.{Protected, Unrelated, Indeterminate}
 use Rattle.verdict.specs.Verdict.{egressVerdict}
 use Rattle.verdict.specs.declared.PacketFenceContext.{PacketFenceContext}
 use Rattle.verdict.specs.declared.FenceAuthoritySnapshot.{FenceAuthoritySnapshot}
@@ -21,12 +21,15 @@ use Rattle.gate.specs.Gate.{Call, matches, endpoint, root, reading, toke
 abbrev pub undecoded : ℕ → Bool
 undecoded n = among n (1 ∷ 6 ∷ 7 ∷ 9 ∷ [])
 
--- where d is the packet's disposition
-abbrev pub contextOf : Call → PacketEndpointDisposition → PacketFenceContext
-contextOf c d = record {
+-- the disposition of a number
+abbrev pub dispositionOf : ℕ → PacketEndpointDisposition
+dispositionOf n = cond (eqb n 0) Protected (cond (eqb n 1) Unrelated Indeterminate)
+
+abbrev pub contextOf : Call → PacketFenceContext
+contextOf c = record {
   «attachment_identity_valid» = eqb (c .attachment) (root c);
   «socket_endpoint_matches» = matches (c .socket) (endpoint c);
-  «endpoint_disposition» = d;
+  «endpoint_disposition» = dispositionOf (reading c .disposition);
   «socket_cookie» = record { 0 = c .cookie };
 }
 
@@ -44,6 +47,4 @@ snapshotOf c = record {
 
 -- wherever the bytes decode, the gate's slot is that of `decide_egress`
 abbrev pub Decided : Type 0
-Decided =
-    (c : Call) (d : PacketEndpointDisposition) → dispositionNumber d ≡ reading c .disposition →
-    undecoded (answering c .number) ≡ false → gateOf c .slot ≡ egressVerdict (contextOf c d) (snapshotOf c)
+Decided = (c : Call) → undecoded (answering c .number) ≡ false → gateOf c .slot ≡ egressVerdict (contextOf c) (snapshotOf c)

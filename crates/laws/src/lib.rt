@@ -20,7 +20,7 @@
 //   `Rules.antt`); each of the thirteen answers some call (`every-rule-answers` in `Witnesses.antt`); wherever the bytes decode the
 //   gate is `decide_egress` (`is-decide-egress` in `DecidedLaw.antt`, stated in `gate/specs/Decided.antt`); calls at the rules' edges
 //   (`edges-hold` in `Edges.antt`); a record that is found has forty bytes and stands under the key (`first-found` in
-//   `TableLaws.antt`).
+//   `TableLaws.antt`); a packet's reading has one of three dispositions (`disposition-at-most-2` in `Dispositions.antt`).
 // - Isolation, demand 3. `isolated` in `gate/proofs/IsolationLaw.antt`, stated in `gate/specs/Isolation.antt`; with `alike`, two calls
 //   that it is about, and the gate that drops all, which is isolated and refused (`drops-all-is-isolated`, `drops-all-is-refused` in
 //   `Edges.antt`).

@@ -1,6 +1,5 @@
 -- The answer of each public function is its contract's alone. A verdict is told by its slot: no two verdicts have one, since
 -- `verdictOf` gives each back from its own. Assumes nothing.
-use Prim.Native.Nat.{ℕ}
 use mathlib.Core.Bool.{cond}
 use mathlib.Core.Path.{_≡_, refl, sym, ap, _∙_}
 use lib.Dec.{eqb}

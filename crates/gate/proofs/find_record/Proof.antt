@@ -5,7 +5,7 @@ use mathlib.Core.Path.{_≡_, refl, sym, _∙_}
 use borrow.Author.Needs.{needs}
 use native.Mathlib.Omega.{arith}
 use lib.ListN.{length, drop}
-use Rattle.gate.specs.Table.{records, under, firstOf}
+use Rattle.gate.specs.Table.{records, under}
 use Rattle.gate.proofs.TableLaws.{found-here, found-on, found-none}
 use Rattle.gate.proofs.find_record.Statement.{statement}
 use Rattle.gate.proofs.find_record.Tie as tie
