@@ -1,4 +1,4 @@
--- Answers as single numbers, for programs in other languages. Assumes nothing.
+-- A reading as one number, for programs in other languages. Assumes nothing.
 use Prim.Native.Nat.{ℕ, _+_, _*_}
 use Rattle.packet.specs.Reading.{Answer}
 

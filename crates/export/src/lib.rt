@@ -1,5 +1,5 @@
-// What programs in other languages link: `rt staticlib export` writes target/staticlib/libexport.a, for x86-64. A `&[u8]` passes as a
-// pointer and a length, a reference to an array as a pointer.
+// The classifier for programs in other languages: `rt staticlib export` writes target/staticlib/libexport.a, for x86-64. A `&[u8]`
+// passes as a pointer and a length, a reference to an array as a pointer.
 use endpoint::ProtectedEndpoint;
 use packet::PacketEndpointDisposition;
 ghost use mathlib.Core.Path.{_≡_};

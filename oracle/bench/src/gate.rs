@@ -62,19 +62,60 @@ fn value(cookie: u64, deadline: u64) -> [u8; 40] {
 
 /// A table of records of other sockets, with the socket's own at a place, if it is among them.
 fn table(records: usize, own: Option<usize>) -> Vec<u8> {
-    (0..records).flat_map(|index| if own == Some(index) { value(9, 1000) } else { value(1000 + index as u64, 1000) }).collect()
+    (0..records)
+        .flat_map(|index| {
+            if own == Some(index) {
+                value(9, 1000)
+            } else {
+                value(1000 + index as u64, 1000)
+            }
+        })
+        .collect()
 }
 
 fn case(name: &'static str, table: Vec<u8>, packet: Vec<u8>, bound: bool) -> Case {
     let endpoint = ProtectedEndpoint::ipv4([192, 0, 2, 10], 4500).expect("the endpoint is sound");
-    let config = FenceConfig::new(endpoint, 7, 4096).expect("the configuration is sound").encode().to_vec().leak();
-    let current = CurrentFenceToken::registered(3, 9).expect("the token is odd").encode().to_vec().leak();
-    let socket = if bound { Socket { family: 4, address: IPV4, port: 4500 } } else { Socket { family: 0, address: [0; 16], port: 0 } };
-    let call: &'static Call =
-        Box::leak(Box::new(Call { config, attachment: 7, socket, packet: packet.leak(), cookie: 9, current, table: table.leak(), now: 999 }));
+    let config = FenceConfig::new(endpoint, 7, 4096)
+        .expect("the configuration is sound")
+        .encode()
+        .to_vec()
+        .leak();
+    let current = CurrentFenceToken::registered(3, 9)
+        .expect("the token is odd")
+        .encode()
+        .to_vec()
+        .leak();
+    let socket = if bound {
+        Socket {
+            family: 4,
+            address: IPV4,
+            port: 4500,
+        }
+    } else {
+        Socket {
+            family: 0,
+            address: [0; 16],
+            port: 0,
+        }
+    };
+    let call: &'static Call = Box::leak(Box::new(Call {
+        config,
+        attachment: 7,
+        socket,
+        packet: packet.leak(),
+        cookie: 9,
+        current,
+        table: table.leak(),
+        now: 999,
+    }));
     // a long search is counted in fewer calls
     let calls = if call.table.len() > 4000 { 200 } else { 100_000 };
-    Case { name, calls, proved: Box::new(move || proved_gate(black_box(call))), rust: Box::new(move || plain_gate(black_box(call))) }
+    Case {
+        name,
+        calls,
+        proved: Box::new(move || proved_gate(black_box(call))),
+        rust: Box::new(move || plain_gate(black_box(call))),
+    }
 }
 
 pub fn cases() -> Vec<Case> {
@@ -87,7 +128,12 @@ pub fn cases() -> Vec<Case> {
         case("gate: 4,096 records, match first", table(4096, Some(0)), A.to_vec(), false),
         case("gate: 4,096 records, no match", table(4096, None), A.to_vec(), false),
         case("gate: empty table", vec![], A.to_vec(), false),
-        case("gate: one record, socket bound to the endpoint", table(1, Some(0)), A.to_vec(), true),
+        case(
+            "gate: one record, socket bound to the endpoint",
+            table(1, Some(0)),
+            A.to_vec(),
+            true,
+        ),
         case("gate: unrelated source", table(1, Some(0)), other(A.to_vec()), false),
     ]
 }

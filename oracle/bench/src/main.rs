@@ -6,6 +6,7 @@
 //! `oracle/bench/run` counts the instructions of so many calls by callgrind, as the difference of two runs.
 
 mod classify;
+mod gate;
 
 use std::hint::black_box;
 use std::process::ExitCode;
@@ -19,7 +20,7 @@ pub struct Case {
 }
 
 fn cases() -> Vec<Case> {
-    classify::cases()
+    classify::cases().into_iter().chain(gate::cases()).collect()
 }
 
 fn list(cases: &[Case]) -> ExitCode {

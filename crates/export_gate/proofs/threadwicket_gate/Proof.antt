@@ -1,0 +1,18 @@
+-- `threadwicket_gate` puts the slot and the count of the gate's answer into one number. Assumes nothing.
+use borrow.Author.Needs.{needs}
+use Rattle.export_gate.proofs.threadwicket_gate.Statement.{statement}
+use Rattle.export_gate.proofs.threadwicket_gate.Tie as tie
+
+returns : tie.Need-returns
+returns c = rw (← c .before .before .gate .ensures, ← c .before .slot-number .ensures .0)
+
+pub threadwicket-gate-spec : {M : Type 1} → statement M
+threadwicket-gate-spec =
+    tie.close
+    (tie.spec
+    (λ c κs. search needs)
+    (λ c κs. search needs)
+    (λ c. search needs)
+    (λ c. search needs)
+    (λ c. search needs)
+    returns)

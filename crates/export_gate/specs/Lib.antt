@@ -1,0 +1,2 @@
+-- The definitions that the contract of `export_gate` cites. Assumes nothing.
+pub mod Export

@@ -1,0 +1,73 @@
+// The joined gate for programs in other languages: `rt staticlib export_gate` writes target/staticlib/libexport_gate.a, for x86-64. It is
+// an archive of its own, so that the classifier is compiled into its one caller in each of the two.
+use gate::Socket;
+use units::BootNs;
+use units::RootCgroupId;
+use units::SocketCookie;
+use verdict::FenceVerdict;
+ghost use mathlib.Core.Path.{_≡_};
+ghost use Prim.Native.Nat.{_≤_};
+ghost use Rattle.verdict.specs.Verdict.{slotOf};
+ghost use Rattle.gate.specs.Gate.{gateOf};
+ghost use Rattle.export_gate.specs.Export.{slotNumber, answerNumber};
+
+// An address in network order; an IPv4 one stands in the first four bytes.
+pub type Address = [u8; 16];
+
+fn slot_number(verdict: FenceVerdict) -> u32
+    ensures { λ r. ⌜ (r ≡ slotNumber (slotOf verdict)) × (r ≤ 255) ⌝ }
+{
+    match verdict {
+        FenceVerdict::PassUnrelated => 255,
+        FenceVerdict::Allow => 0,
+        FenceVerdict::DropCookieZero => 2,
+        FenceVerdict::DropMissing => 3,
+        FenceVerdict::DropClosed => 4,
+        FenceVerdict::DropExpired => 5,
+        FenceVerdict::DropMalformed => 6,
+        FenceVerdict::DropStaleToken => 7,
+    }
+}
+
+// The joined gate: the verdict's slot, or 255 for PassUnrelated, which has none, and 256 for each extension header passed.
+#[no_mangle]
+pub extern "C" fn threadwicket_gate(
+    config: &[u8],
+    attachment: u64,
+    family: u8,
+    address: &Address,
+    port: u16,
+    packet: &[u8],
+    cookie: u64,
+    current: &[u8],
+    table: &[u8],
+    now_boot_ns: u64,
+) -> u32
+    ensures { λ r. ⌜ r ≡ answerNumber (gateOf (record {
+      config = now (config .entry);
+      attachment = attachment;
+      socket = record { family = family; address = now (address .entry); port = port };
+      packet = now (packet .entry);
+      cookie = cookie;
+      current = now (current .entry);
+      table = now (table .entry);
+      time = «now_boot_ns»;
+    })) ⌝ }
+{
+    let answer = gate::gate(
+        config,
+        RootCgroupId(attachment),
+        Socket {
+            family,
+            address: *address,
+            port,
+        },
+        packet,
+        SocketCookie(cookie),
+        current,
+        table,
+        BootNs(now_boot_ns),
+    );
+    let verdict = answer.verdict;
+    slot_number(verdict) + 256 * (answer.headers as u32)
+}
