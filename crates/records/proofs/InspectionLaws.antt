@@ -99,7 +99,7 @@ flag-fits : (e : InspectedEntry) → Fit headLayout (inspectionMark ∷ 5 ∷ pr
 flag-fits Absent = (lit< tt, (lit< tt, (lit< tt, (lit< tt, tt))))
 flag-fits (Present v) = (lit< tt, (lit< tt, (lit< tt, (lit< tt, tt))))
 
-pub fits-by-parts : (v : FenceInspection) → Fit (currentCodec .layout) (currentCodec .fields (v .current)) →
+fits-by-parts : (v : FenceInspection) → Fit (currentCodec .layout) (currentCodec .fields (v .current)) →
     Fit (mutationCodec .layout) (mutationCodec .fields (v .mutation)) → Fit (cookieValueCodec .layout) (partFields (v .entry)) →
     Fit (inspectionCodec .layout) (inspectionCodec .fields v)
 fits-by-parts v c m e =
@@ -153,3 +153,11 @@ inspection-lawful = record {
   fits = λ v f.
       fits-by-parts v (current.current-lawful .fits (v .current) (f .0)) (mutation.mutation-lawful .fits (v .mutation) (f .1)) (part-fits (v .entry) (f .2));
 }
+
+-- there is a number for each field
+numbers : (c : CurrentFenceToken) (m : FenceMutationAuthority) (e : InspectedEntry) → length (inspectionCodec .fields (inspection c m e)) ≡ length (inspectionCodec .layout)
+numbers c m Absent = refl
+numbers c m (Present v) = refl
+
+pub numbers-counted : (v : FenceInspection) → length (inspectionCodec .fields v) ≡ length (inspectionCodec .layout)
+numbers-counted v = numbers (v .current) (v .mutation) (v .entry)

@@ -227,11 +227,9 @@ impl FenceConfig {
     pub fn encode(self, out: &mut [u8]) -> u32
         ensures { λ r. ⌜ Encoded configCodec self (now (out .entry)) r (now (out .exit)) ⌝ }
     {
-        if !self.is_sound() {
-            return 3;
-        }
-        if out.len() < FenceConfig::LEN {
-            return 4;
+        let number = octets::encode_number(self.is_sound(), FenceConfig::LEN, out.len());
+        if number != 0 {
+            return number;
         }
         let endpoint = self.endpoint;
         let address = endpoint.address;

@@ -7,7 +7,7 @@ use crate::mutation::MutationAnswer;
 ghost use mathlib.Core.Path.{_≡_};
 ghost use mathlib.Core.List.{[], _∷_, _++_};
 ghost use Rattle.octets.specs.Octets.{octetsAt, le, be, allZero};
-ghost use Rattle.octets.specs.Layout.{fieldsAt, puts, Fit};
+ghost use Rattle.octets.specs.Layout.{fieldsAt, puts};
 ghost use Rattle.octets.specs.Codec.{Built, Decoded, Encoded, sound};
 ghost use Rattle.records.specs.Current.{currentCodec};
 ghost use Rattle.records.specs.Mutation.{mutationCodec};
@@ -42,11 +42,13 @@ struct PartAnswer {
 fn refused(number: u32) -> InspectionAnswer
     ensures { λ r. ⌜ (r .number ≡ number) × (r .value ≡ inspectionCodec .blank) ⌝ }
 {
+    let current = CurrentFenceToken::initial().value;
+    let mutation = FenceMutationAuthority::initial().value;
     InspectionAnswer {
         number,
         value: FenceInspection {
-            current: CurrentFenceToken::initial(),
-            mutation: FenceMutationAuthority::initial(),
+            current,
+            mutation,
             entry: InspectedEntry::Absent,
         },
     }
@@ -289,10 +291,9 @@ impl InspectedEntry {
         }
     }
 
-    // Its fields in their place; and they fit there, since each number is one of its type.
+    // Its fields in their place.
     fn write(self, out: &mut [u8])
-        ensures { λ r. ⌜ (now (out .exit) ≡ puts (cookieValueCodec .layout) (partFields self) (now (out .entry)) 48)
-            × Fit (cookieValueCodec .layout) (partFields self) ⌝ }
+        ensures { λ r. ⌜ now (out .exit) ≡ puts (cookieValueCodec .layout) (partFields self) (now (out .entry)) 48 ⌝ }
     {
         match self {
             InspectedEntry::Absent => write_part(out, 0, 0, 0, 0, 0),
@@ -371,10 +372,9 @@ impl FenceInspection {
         read(s)
     }
 
-    // The record's fields, put at the start; and they fit, since each number is one of its type.
+    // The record's fields, put at the start.
     fn write(self, out: &mut [u8])
-        ensures { λ r. ⌜ (now (out .exit) ≡ puts (inspectionCodec .layout) (inspectionCodec .fields self) (now (out .entry)) 0)
-            × Fit (inspectionCodec .layout) (inspectionCodec .fields self) ⌝ }
+        ensures { λ r. ⌜ now (out .exit) ≡ puts (inspectionCodec .layout) (inspectionCodec .fields self) (now (out .entry)) 0 ⌝ }
     {
         let current = self.current;
         let mutation = self.mutation;
@@ -397,11 +397,9 @@ impl FenceInspection {
     pub fn encode(self, out: &mut [u8]) -> u32
         ensures { λ r. ⌜ Encoded inspectionCodec self (now (out .entry)) r (now (out .exit)) ⌝ }
     {
-        if !self.is_sound() {
-            return 3;
-        }
-        if out.len() < FenceInspection::LEN {
-            return 4;
+        let number = octets::encode_number(self.is_sound(), FenceInspection::LEN, out.len());
+        if number != 0 {
+            return number;
         }
         self.write(out);
         0
