@@ -6,8 +6,8 @@ use records::config::FenceConfig;
 use records::cookie_value::FenceCookieValue;
 use records::current::CurrentFenceToken;
 use records::entry::FenceEntry;
-use records::inspected::InspectedEntry;
 use records::inspection::FenceInspection;
+use records::inspection::InspectedEntry;
 use records::inspection::InspectionAnswer;
 use records::key::FenceCookieKey;
 use records::mutation::FenceMutationAuthority;
@@ -26,8 +26,9 @@ pub(crate) fn current_initial(body: &[u8], out: &mut [u8], at: usize) -> usize
     if body.len() != 0 {
         return 0;
     }
-    octets::put_u8(out, at, 0);
-    fields::put_current(CurrentFenceToken::initial(), out, at + 1);
+    let answer = CurrentFenceToken::initial();
+    octets::put_u8(out, at, (answer.number % 256) as u8);
+    fields::put_current(answer.value, out, at + 1);
     19
 }
 
@@ -87,8 +88,9 @@ pub(crate) fn mutation_initial(body: &[u8], out: &mut [u8], at: usize) -> usize
     if body.len() != 0 {
         return 0;
     }
-    octets::put_u8(out, at, 0);
-    fields::put_mutation(FenceMutationAuthority::initial(), out, at + 1);
+    let answer = FenceMutationAuthority::initial();
+    octets::put_u8(out, at, (answer.number % 256) as u8);
+    fields::put_mutation(answer.value, out, at + 1);
     17
 }
 

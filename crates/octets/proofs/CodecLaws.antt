@@ -1,19 +1,19 @@
 -- The laws of every codec, proved once. Accepted bytes encode to themselves and only sound records are given; sound records decode to
--- themselves; an unsound record is given for no bytes (document 01's meaning of 3); and the three answers of an encoder. A record owes
+-- themselves; an unsound record is given for no bytes (document 01's meaning of 3); and the answers of an encoder. A record owes
 -- `Lawful`, a fact on the numbers of its fields: that `fields` and `of` undo each other on what its rule accepts. The rest is the
 -- laws of layouts. Assumes nothing.
 use mathlib.Core.Path.{_≡_, refl, sym, ap, _∙_}
 use mathlib.Core.Bool.{Bool, true, false, cond, _&&_, true≢false}
 use mathlib.Core.List.{List}
-use Prim.Native.Nat.{ℕ, _<_, _≤_}
+use Prim.Native.Nat.{ℕ, suc}
 use native.Mathlib.Omega.{arith}
 use lib.ListN.{length}
-use lib.Dec.{eqb}
-use borrow.Author.Tests.{eqb-true, eq-eqb, ne-eqb, le-leb, lt-leb}
+use lib.Dec.{eqb, leb}
+use borrow.Author.Tests.{eqb-true, eq-eqb, ne-eqb, leb-true}
 use Rattle.octets.specs.Octets.{Bytes}
 use Rattle.octets.specs.Layout.{size, fieldsAt, puts, Fit}
-use Rattle.octets.specs.Codec.{Codec, asking, decodeNumber, decodeValue, sound, bytes, encodeNumber, encodeBytes, Built, Decoded, Encoded}
-use Rattle.octets.proofs.LayoutLaws.{laid-fields, fields-laid, length-laid, puts-laid, put-laid}
+use Rattle.octets.specs.Codec.{Codec, asking, fieldsNumber, fieldsValue, decodeNumber, decodeValue, sound, bytes, encodeAnswer, encodeNumber, encodeBytes, Built, Decoded, Encoded}
+use Rattle.octets.proofs.LayoutLaws.{laid-fields, fields-laid, length-laid, fit-length, puts-laid, put-laid}
 
 -- What a record owes. `Formed v` says that v is a value of its type: each number within its width, each array of its length.
 pub record Lawful {R : Type 0} (C : Codec R) (Formed : R → Type 0) : Type 0 where
@@ -24,17 +24,18 @@ pub record Lawful {R : Type 0} (C : Codec R) (Formed : R → Type 0) : Type 0 wh
   -- and its numbers fit their fields
   pub fits : (v : R) → Formed v → Fit (C .layout) (C .fields v)
 
-zero-both : (a b : Bool) → _≡_ {A = ℕ} (cond a (cond b 0 2) 1) 0 → (a ≡ true) × (b ≡ true)
-zero-both true true e = (refl, refl)
-zero-both true false e = absurd (omega arith)
-zero-both false b e = absurd (omega arith)
+-- of two tests that answer m + 1 and n + 1 where they fail, 0 says that both hold
+zero-both : (a b : Bool) (m n : ℕ) → cond a (cond b 0 (suc m)) (suc n) ≡ 0 → (a ≡ true) × (b ≡ true)
+zero-both true true m n e = (refl, refl)
+zero-both true false m n e = absurd (omega arith)
+zero-both false b m n e = absurd (omega arith)
 
 module _ {R : Type 0} (C : Codec R) (Formed : R → Type 0) (L : Lawful C Formed) where
   -- accepted bytes encode to themselves, and only sound records are given
   pub accepted : (s : List ℕ) → Bytes s → decodeNumber C s ≡ 0 → (sound C (decodeValue C s) ≡ true) × (bytes C (decodeValue C s) ≡ s)
   unfolding decodeNumber decodeValue
   accepted s h e =
-      let both = zero-both (eqb (length s) (size (C .layout))) (C .ok (fieldsAt (C .layout) s 0)) e in
+      let both = zero-both (eqb (length s) (size (C .layout))) (C .ok (fieldsAt (C .layout) s 0)) 1 0 e in
       let back = L .back s 0 h (both .1) in
       (simp (both .0, both .1) (ap (C .ok) back ∙ both .1), simp (both .0, both .1, back) (laid-fields (C .layout) s h (eqb-true _ _ (both .0))))
 
@@ -43,7 +44,7 @@ module _ {R : Type 0} (C : Codec R) (Formed : R → Type 0) (L : Lawful C Formed
   unfolding decodeNumber decodeValue
   kept v g h =
       let f = L .fits v g in
-      let len = eq-eqb _ _ (length-laid (C .layout) (C .fields v) f) in
+      let len = eq-eqb _ _ (length-laid (C .layout) (C .fields v) (fit-length (C .layout) (C .fields v) f)) in
       let there = fields-laid (C .layout) (C .fields v) f in
       (simp (len, there, h), simp (len, there, h) (L .forth v g h))
 
@@ -57,11 +58,15 @@ two-ways true n e = (λ z. refl, λ h. absurd (h e))
 two-ways false n e = (λ z. absurd (omega arith), λ h. refl)
 
 module _ {R : Type 0} (C : Codec R) {vs : List ℕ} {n : ℕ} {v : R} where
-  pub built-done : C .ok vs ≡ true → n ≡ 0 → v ≡ C .of vs → Built C vs n v
-  built-done e p q = record { number = simp e p; value = simp e q }
+  pub built-done : C .ok vs ≡ true → (n ≡ 0) × (v ≡ C .of vs) → Built C vs n v
+  built-done e p = record { number = simp e (p .0); value = simp e (p .1) }
 
   pub built-refused : C .ok vs ≡ false → (n ≡ 2) × (v ≡ C .blank) → Built C vs n v
   built-refused e p = record { number = simp e (p .0); value = simp e (p .1) }
+
+  -- the same of numbers that are equal
+  pub built-of : {ws : List ℕ} → ws ≡ vs → Built C ws n v → Built C vs n v
+  built-of e b = record { number = b .number ∙ ap (fieldsNumber C) e; value = b .value ∙ ap (fieldsValue C) e }
 
   -- the same of a codec that asks what holds
   pub built-asked : (b : Bool) → b ≡ true → Built C vs n v → Built (asking b C) vs n v
@@ -83,27 +88,30 @@ module _ {R : Type 0} (C : Codec R) {s : List ℕ} {n : ℕ} {v : R} where
   unfolding decodeNumber decodeValue
   decode-length h p = record { number = simp (ne-eqb _ _ h) (p .0); value = simp (ne-eqb _ _ h) (p .1) }
 
+  -- the rule on the fields' numbers decides, as of a constructor
   pub decode-read : length s ≡ size (C .layout) → Built C (fieldsAt (C .layout) s 0) n v → Decoded C s n v
   unfolding decodeNumber decodeValue
   decode-read e b = record { number = simp (eq-eqb _ _ e) (b .number); value = simp (eq-eqb _ _ e) (b .value) }
 
--- The answers of an encoder, in 01's order: 3 before 4.
-module _ {R : Type 0} (C : Codec R) (v : R) (out : List ℕ) where
-  pub encode-unsound : sound C v ≡ false → Encoded C v out 3 out
-  unfolding encodeNumber encodeBytes
-  encode-unsound e = record { number = simp e; output = simp e }
+-- The answers of an encoder, by the number n that `encode_number` gives.
+untouched : (a b : Bool) (written out : List ℕ) → (_≡_ {A = ℕ} (cond a (cond b 0 4) 3) 0 → ⊥) → cond a (cond b written out) out ≡ out
+untouched true true written out h = absurd (h refl)
+untouched true false written out h = refl
+untouched false b written out h = refl
 
-  pub encode-short : sound C v ≡ true → length out < size (C .layout) → Encoded C v out 4 out
-  unfolding encodeNumber encodeBytes
-  encode-short e h = record { number = simp (e, lt-leb _ _ h); output = simp (e, lt-leb _ _ h) }
+module _ {R : Type 0} (C : Codec R) {v : R} {out : List ℕ} where
+  -- another number than 0 is answered, and the output left as it is
+  pub encode-refused : {n : ℕ} → n ≡ encodeNumber C v out → (n ≡ 0 → ⊥) → Encoded C v out n out
+  unfolding encodeAnswer encodeBytes
+  encode-refused e h = record { number = e; output = sym (untouched (sound C v) (leb (size (C .layout)) (length out)) _ out (λ z. h (e ∙ z))) }
 
-  pub encode-done : (out′ : List ℕ) → sound C v ≡ true → size (C .layout) ≤ length out → Fit (C .layout) (C .fields v) →
-      out′ ≡ puts (C .layout) (C .fields v) out 0 → Encoded C v out 0 out′
-  unfolding encodeNumber encodeBytes
-  encode-done out′ e h f p = record {
-    number = simp (e, le-leb _ _ h);
-    output = simp (e, le-leb _ _ h) (p ∙ puts-laid (C .layout) (C .fields v) out 0 ∙ put-laid (C .layout) (C .fields v) out f h);
-  }
+  -- under 0 the fields are put at the start, and 0 is answered
+  pub encode-written : {out′ : List ℕ} → encodeNumber C v out ≡ 0 → length (C .fields v) ≡ length (C .layout) → out′ ≡ puts (C .layout) (C .fields v) out 0 → Encoded C v out 0 out′
+  unfolding encodeAnswer encodeBytes
+  encode-written e f p =
+      let both = zero-both (sound C v) (leb (size (C .layout)) (length out)) 3 2 e in
+      let there = puts-laid (C .layout) (C .fields v) out 0 ∙ put-laid (C .layout) (C .fields v) out f (leb-true _ _ (both .1)) in
+      record { number = sym e; output = simp (both .0, both .1) (p ∙ there) }
 
 -- A rule that is a chain of tests holds where each does.
 pub and-left : (a b : Bool) → (a && b) ≡ true → a ≡ true

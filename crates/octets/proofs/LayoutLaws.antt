@@ -49,11 +49,17 @@ fields-after (f ∷ fs) (v ∷ vs) p h =
 pub fields-laid : (fs : List Field) (vs : List ℕ) → Fit fs vs → fieldsAt fs (laid fs vs) 0 ≡ vs
 fields-laid fs vs h = fields-after fs vs [] h
 
-pub length-laid : (fs : List Field) (vs : List ℕ) → Fit fs vs → length (laid fs vs) ≡ size fs
-length-laid [] [] h = refl
-length-laid [] (v ∷ vs) h = absurd h
-length-laid (f ∷ fs) [] h = absurd h
-length-laid (f ∷ fs) (v ∷ vs) h = rw (length-append, length-bytesOf, length-laid fs vs (h .1))
+-- as many octets as the layout says, where there is a number for each field
+pub length-laid : (fs : List Field) (vs : List ℕ) → length vs ≡ length fs → length (laid fs vs) ≡ size fs
+length-laid [] vs h = refl
+length-laid (f ∷ fs) [] h = absurd (omega arith)
+length-laid (f ∷ fs) (v ∷ vs) h = rw (length-append, length-bytesOf, length-laid fs vs (omega arith))
+
+pub fit-length : (fs : List Field) (vs : List ℕ) → Fit fs vs → length vs ≡ length fs
+fit-length [] [] h = refl
+fit-length [] (v ∷ vs) h = absurd h
+fit-length (f ∷ fs) [] h = absurd h
+fit-length (f ∷ fs) (v ∷ vs) h = ap suc (fit-length fs vs (h .1))
 
 -- ---- what a run of stores leaves
 
@@ -67,7 +73,7 @@ puts-laid (f ∷ fs) (v ∷ vs) d at =
     ∙ sym (put-append d at (bytesOf f v) (laid fs vs))
 
 -- written at the start of a list with room, the rest unchanged
-pub put-laid : (fs : List Field) (vs d : List ℕ) → Fit fs vs → size fs ≤ length d → put d 0 (laid fs vs) ≡ laid fs vs ++ drop (size fs) d
+pub put-laid : (fs : List Field) (vs d : List ℕ) → length vs ≡ length fs → size fs ≤ length d → put d 0 (laid fs vs) ≡ laid fs vs ++ drop (size fs) d
 put-laid fs vs d h room =
     let e : length (laid fs vs) ≡ size fs = length-laid fs vs h in
     rw (zero-add, e) at (put-in d 0 (laid fs vs) (omega arith))

@@ -2,4 +2,5 @@
 pub mod OctetsLaws
 pub mod LayoutLaws
 pub mod CodecLaws
+pub mod Calls
 pub mod Unique

@@ -21,6 +21,8 @@ use Rattle.octets.proofs.is_zero.Reads as is-zero
 use Rattle.octets.proofs.is_zero.Kinds as is-zero-kinds
 use Rattle.octets.proofs.same.Reads as same
 use Rattle.octets.proofs.same.Kinds as same-kinds
+use Rattle.octets.proofs.encode_number.Reads as encode-number
+use Rattle.octets.proofs.encode_number.Kinds as encode-number-kinds
 use Rattle.octets.proofs.put_u8.Reads as put-u8
 use Rattle.octets.proofs.put_u8.Kinds as put-u8-kinds
 use Rattle.octets.proofs.put_u16_le.Reads as put-u16-le
@@ -62,6 +64,9 @@ is-zero-determined κs a x y u v p q = (p ∙ sym q, refl)
 
 pub same-determined : Determined same-kinds.ps same-kinds.r same.Learnt
 same-determined κs a x y u v p q = (p ∙ sym q, refl)
+
+pub encode-number-determined : Determined encode-number-kinds.ps encode-number-kinds.r encode-number.Learnt
+encode-number-determined κs a x y u v p q = (p ∙ sym q, refl)
 
 pub put-u8-determined : Determined put-u8-kinds.ps put-u8-kinds.r put-u8.Learnt
 put-u8-determined κs a x y u v p q = (refl, λ i. ((p ∙ sym q) i, u .1))

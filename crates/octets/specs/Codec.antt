@@ -23,6 +23,10 @@ pub record Codec (R : Type 0) : Type 0 where
 abbrev pub asking : {R : Type 0} → Bool → Codec R → Codec R
 asking b C = record { layout = C .layout; ok = λ vs. b && C .ok vs; of = C .of; fields = C .fields; blank = C .blank }
 
+-- what an encoder answers of a record's soundness, the record's length and the room for it: 3 unsound, 4 too little room, 0 done
+unfoldable pub encodeAnswer : Bool → ℕ → ℕ → ℕ
+encodeAnswer sound len room = cond sound (cond (leb len room) 0 4) 3
+
 module _ {R : Type 0} (C : Codec R) where
   -- of the fields' numbers, as a constructor has them: 0 done, or 2 and the all-zero record
   abbrev pub fieldsNumber : List ℕ → ℕ
@@ -46,9 +50,9 @@ module _ {R : Type 0} (C : Codec R) where
   abbrev pub bytes : R → List ℕ
   bytes v = laid (C .layout) (C .fields v)
 
-  -- of a record and an output: 3 unsound, 4 the output is shorter than the record, 0 done
-  unfoldable pub encodeNumber : R → List ℕ → ℕ
-  encodeNumber v out = cond (sound v) (cond (leb (size (C .layout)) (length out)) 0 4) 3
+  -- of a record and an output: the room is the output's length
+  abbrev pub encodeNumber : R → List ℕ → ℕ
+  encodeNumber v out = encodeAnswer (sound v) (size (C .layout)) (length out)
 
   -- what the output holds then: the record's bytes at the start and the rest as it was; untouched on a refusal
   unfoldable pub encodeBytes : R → List ℕ → List ℕ

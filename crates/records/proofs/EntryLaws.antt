@@ -10,7 +10,7 @@ use Rattle.octets.proofs.CodecLaws.{Lawful, and-left, and-right}
 use Rattle.records.specs.declared.entry.FenceEntryState.{FenceEntryState}
 use Rattle.records.specs.declared.entry.FenceEntryState.the-variants.{InitialClosed, Active, TerminalClosed, Reclaiming}
 use Rattle.records.specs.declared.entry.FenceEntry.{FenceEntry}
-use Rattle.records.specs.Entry.{controlOf, stateFrom, stateRule, entryRule, entry, entryCodec}
+use Rattle.records.specs.Entry.{controlOf, stateFrom, deadlineRule, stateRule, entryRule, entry, entryCodec}
 
 -- ---- states and controls
 

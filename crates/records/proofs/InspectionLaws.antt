@@ -14,14 +14,13 @@ use Rattle.octets.proofs.LayoutLaws.{fit-append}
 use Rattle.octets.proofs.CodecLaws.{Lawful, and-left, and-right}
 use Rattle.records.specs.declared.current.CurrentFenceToken.{CurrentFenceToken}
 use Rattle.records.specs.declared.mutation.FenceMutationAuthority.{FenceMutationAuthority}
-use Rattle.records.specs.declared.inspected.InspectedEntry.{InspectedEntry}
-use Rattle.records.specs.declared.inspected.InspectedEntry.the-variants.{Absent, Present}
+use Rattle.records.specs.declared.inspection.InspectedEntry.{InspectedEntry}
+use Rattle.records.specs.declared.inspection.InspectedEntry.the-variants.{Absent, Present}
 use Rattle.records.specs.declared.inspection.FenceInspection.{FenceInspection}
 use Rattle.records.specs.Current.{currentCodec, currentRule}
 use Rattle.records.specs.Mutation.{mutationCodec, mutationRule}
 use Rattle.records.specs.CookieValue.{cookieValueCodec, cookieValueRule}
-use Rattle.records.specs.Inspected.{presentFlag, partFields, partNumbers, partRule, partCodec}
-use Rattle.records.specs.Inspection.{inspectionMark, headRule, inspection, headLayout, tailLayout, zeroTail, inspectionCodec}
+use Rattle.records.specs.Inspection.{inspectionMark, headRule, presentFlag, partFields, partNumbers, partRule, partCodec, inspection, headLayout, tailLayout, zeroTail, inspectionCodec}
 use Rattle.records.proofs.CurrentLaws as current
 use Rattle.records.proofs.MutationLaws as mutation
 use Rattle.records.proofs.CookieValueLaws as value
@@ -100,7 +99,7 @@ flag-fits : (e : InspectedEntry) → Fit headLayout (inspectionMark ∷ 5 ∷ pr
 flag-fits Absent = (lit< tt, (lit< tt, (lit< tt, (lit< tt, tt))))
 flag-fits (Present v) = (lit< tt, (lit< tt, (lit< tt, (lit< tt, tt))))
 
-pub fits-by-parts : (v : FenceInspection) → Fit (currentCodec .layout) (currentCodec .fields (v .current)) →
+fits-by-parts : (v : FenceInspection) → Fit (currentCodec .layout) (currentCodec .fields (v .current)) →
     Fit (mutationCodec .layout) (mutationCodec .fields (v .mutation)) → Fit (cookieValueCodec .layout) (partFields (v .entry)) →
     Fit (inspectionCodec .layout) (inspectionCodec .fields v)
 fits-by-parts v c m e =
@@ -154,3 +153,11 @@ inspection-lawful = record {
   fits = λ v f.
       fits-by-parts v (current.current-lawful .fits (v .current) (f .0)) (mutation.mutation-lawful .fits (v .mutation) (f .1)) (part-fits (v .entry) (f .2));
 }
+
+-- there is a number for each field
+numbers : (c : CurrentFenceToken) (m : FenceMutationAuthority) (e : InspectedEntry) → length (inspectionCodec .fields (inspection c m e)) ≡ length (inspectionCodec .layout)
+numbers c m Absent = refl
+numbers c m (Present v) = refl
+
+pub numbers-counted : (v : FenceInspection) → length (inspectionCodec .fields v) ≡ length (inspectionCodec .layout)
+numbers-counted v = numbers (v .current) (v .mutation) (v .entry)

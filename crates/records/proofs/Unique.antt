@@ -109,10 +109,10 @@ use Rattle.records.proofs.config.FenceConfig.decode.Reads as config-dec
 use Rattle.records.proofs.config.FenceConfig.decode.Kinds as config-decode-kinds
 use Rattle.records.proofs.config.FenceConfig.encode.Reads as config-encode
 use Rattle.records.proofs.config.FenceConfig.encode.Kinds as config-encode-kinds
-use Rattle.records.proofs.inspected.InspectedEntry.flag.Reads as inspected-flag
-use Rattle.records.proofs.inspected.InspectedEntry.flag.Kinds as inspected-flag-kinds
-use Rattle.records.proofs.inspected.InspectedEntry.is_sound.Reads as inspected-is-sound
-use Rattle.records.proofs.inspected.InspectedEntry.is_sound.Kinds as inspected-is-sound-kinds
+use Rattle.records.proofs.inspection.InspectedEntry.flag.Reads as inspected-flag
+use Rattle.records.proofs.inspection.InspectedEntry.flag.Kinds as inspected-flag-kinds
+use Rattle.records.proofs.inspection.InspectedEntry.is_sound.Reads as inspected-is-sound
+use Rattle.records.proofs.inspection.InspectedEntry.is_sound.Kinds as inspected-is-sound-kinds
 use Rattle.records.proofs.inspection.FenceInspection.new.Reads as inspection-new
 use Rattle.records.proofs.inspection.FenceInspection.new.Kinds as inspection-new-kinds
 use Rattle.records.proofs.inspection.FenceInspection.current.Reads as inspection-current
@@ -131,7 +131,7 @@ use Rattle.records.proofs.inspection.FenceInspection.encode.Kinds as in
 -- ---- current
 
 pub current-initial-determined : Determined current-initial-kinds.ps current-initial-kinds.r current-initial.Learnt
-current-initial-determined κs a x y u v p q = (p ∙ sym q, refl)
+current-initial-determined κs a x y u v p q = (λ i. record { number = (p .number ∙ sym (q .number)) i; value = (p .value ∙ sym (q .value)) i }, refl)
 
 pub current-lifecycle-open-determined : Determined current-lifecycle-open-kinds.ps current-lifecycle-open-kinds.r current-lifecycle-open.Learnt
 current-lifecycle-open-determined κs a x y u v p q = (λ i. record { number = (p .number ∙ sym (q .number)) i; value = (p .value ∙ sym (q .value)) i }, refl)
@@ -166,7 +166,7 @@ current-encode-determined κs a x y u v p q = (p .number ∙ sym (q .number), λ
 -- ---- mutation
 
 pub mutation-initial-determined : Determined mutation-initial-kinds.ps mutation-initial-kinds.r mutation-initial.Learnt
-mutation-initial-determined κs a x y u v p q = (p ∙ sym q, refl)
+mutation-initial-determined κs a x y u v p q = (λ i. record { number = (p .number ∙ sym (q .number)) i; value = (p .value ∙ sym (q .value)) i }, refl)
 
 pub mutation-new-determined : Determined mutation-new-kinds.ps mutation-new-kinds.r mutation-new.Learnt
 mutation-new-determined κs a x y u v p q = (λ i. record { number = (p .number ∙ sym (q .number)) i; value = (p .value ∙ sym (q .value)) i }, refl)

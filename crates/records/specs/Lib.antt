@@ -5,5 +5,4 @@ pub mod Current
 pub mod Entry
 pub mod CookieValue
 pub mod Config
-pub mod Inspected
 pub mod Inspection

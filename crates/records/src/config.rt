@@ -3,6 +3,7 @@ use endpoint::ProtectedEndpoint;
 use units::RootCgroupId;
 ghost use mathlib.Core.Path.{_≡_};
 ghost use mathlib.Core.List.{[], _∷_};
+ghost use Rattle.octets.specs.Octets.{octetsAt, le};
 ghost use Rattle.octets.specs.Layout.{puts};
 ghost use Rattle.octets.specs.Codec.{Built, Decoded, Encoded, sound};
 ghost use Rattle.records.specs.Config.{versionRule, frameRule, endpointOf, config, frameFields, configCodec};
@@ -226,11 +227,9 @@ impl FenceConfig {
     pub fn encode(self, out: &mut [u8]) -> u32
         ensures { λ r. ⌜ Encoded configCodec self (now (out .entry)) r (now (out .exit)) ⌝ }
     {
-        if !self.is_sound() {
-            return 3;
-        }
-        if out.len() < FenceConfig::LEN {
-            return 4;
+        let number = octets::encode_number(self.is_sound(), FenceConfig::LEN, out.len());
+        if number != 0 {
+            return number;
         }
         let endpoint = self.endpoint;
         let address = endpoint.address;

@@ -8,9 +8,8 @@ use units::DurableFenceToken;
 use units::SocketCookie;
 ghost use mathlib.Core.Path.{_≡_};
 ghost use mathlib.Core.List.{[], _∷_};
-ghost use Rattle.octets.specs.Layout.{puts};
 ghost use Rattle.octets.specs.Codec.{asking, Built, Decoded, Encoded, sound};
-ghost use Rattle.records.specs.CookieValue.{cookieValueRule, cookieValueCodec, keyOf, entryOf, agreeing, pairFields};
+ghost use Rattle.records.specs.CookieValue.{cookieValueRule, cookieValue, cookieValueCodec, keyOf, entryOf, agreeing, pairFields};
 
 pub struct FenceCookieValue {
     pub state: FenceEntryState,
@@ -32,18 +31,24 @@ fn rule(zeros: u32, control: u32, cookie: u64, token: u64, deadline: u64, epoch:
     zeros == 0 && (cookie != 0 && crate::entry::state_rule(control, token, deadline, epoch))
 }
 
-// A refusal.
-fn refused(number: u32) -> CookieValueAnswer
-    ensures { λ r. ⌜ (r .number ≡ number) × (r .value ≡ cookieValueCodec .blank) ⌝ }
+fn answer(
+    number: u32,
+    state: FenceEntryState,
+    cookie: u64,
+    token: u64,
+    deadline: u64,
+    epoch: u64,
+) -> CookieValueAnswer
+    ensures { λ r. ⌜ (r .number ≡ number) × (r .value ≡ cookieValue state cookie token deadline epoch) ⌝ }
 {
     CookieValueAnswer {
         number,
         value: FenceCookieValue {
-            state: FenceEntryState::InitialClosed,
-            socket_cookie: SocketCookie(0),
-            durable_fence_token: DurableFenceToken(0),
-            deadline_boot_ns: BootNs(0),
-            control_epoch: ControlEpoch(0),
+            state,
+            socket_cookie: SocketCookie(cookie),
+            durable_fence_token: DurableFenceToken(token),
+            deadline_boot_ns: BootNs(deadline),
+            control_epoch: ControlEpoch(epoch),
         },
     }
 }
@@ -60,18 +65,10 @@ pub(crate) fn from_fields(
     ensures { λ r. ⌜ Built cookieValueCodec (zeros ∷ control ∷ cookie ∷ token ∷ deadline ∷ epoch ∷ []) (r .number) (r .value) ⌝ }
 {
     if rule(zeros, control, cookie, token, deadline, epoch) {
-        CookieValueAnswer {
-            number: 0,
-            value: FenceCookieValue {
-                state: FenceEntryState::from_control(control),
-                socket_cookie: SocketCookie(cookie),
-                durable_fence_token: DurableFenceToken(token),
-                deadline_boot_ns: BootNs(deadline),
-                control_epoch: ControlEpoch(epoch),
-            },
-        }
+        let state = FenceEntryState::from_control(control);
+        answer(0, state, cookie, token, deadline, epoch)
     } else {
-        refused(2)
+        answer(2, FenceEntryState::InitialClosed, 0, 0, 0, 0)
     }
 }
 
@@ -92,7 +89,7 @@ impl FenceCookieValue {
         ensures { λ r. ⌜ Built (asking (agreeing key entry) cookieValueCodec) (pairFields key entry) (r .number) (r .value) ⌝ }
     {
         if !agree(key, entry) {
-            return refused(2);
+            return answer(2, FenceEntryState::InitialClosed, 0, 0, 0, 0);
         }
         let state = entry.state;
         let cookie = key.socket_cookie;
@@ -143,7 +140,7 @@ impl FenceCookieValue {
         ensures { λ r. ⌜ Decoded cookieValueCodec (now (s .entry)) (r .number) (r .value) ⌝ }
     {
         if s.len() != FenceCookieValue::LEN {
-            return refused(1);
+            return answer(1, FenceEntryState::InitialClosed, 0, 0, 0, 0);
         }
         let zeros = octets::get_u32_le(s, 0);
         let control = octets::get_u32_le(s, 4);
@@ -154,10 +151,13 @@ impl FenceCookieValue {
         from_fields(zeros, control, cookie, token, deadline, epoch)
     }
 
-    // The record's fields, put at the start.
-    fn write(self, out: &mut [u8])
-        ensures { λ r. ⌜ now (out .exit) ≡ puts (cookieValueCodec .layout) (cookieValueCodec .fields self) (now (out .entry)) 0 ⌝ }
+    pub fn encode(self, out: &mut [u8]) -> u32
+        ensures { λ r. ⌜ Encoded cookieValueCodec self (now (out .entry)) r (now (out .exit)) ⌝ }
     {
+        let number = octets::encode_number(self.is_sound(), FenceCookieValue::LEN, out.len());
+        if number != 0 {
+            return number;
+        }
         let state = self.state;
         let cookie = self.socket_cookie;
         let token = self.durable_fence_token;
@@ -169,18 +169,6 @@ impl FenceCookieValue {
         octets::put_u64_le(out, 16, token.0);
         octets::put_u64_le(out, 24, deadline.0);
         octets::put_u64_le(out, 32, epoch.0);
-    }
-
-    pub fn encode(self, out: &mut [u8]) -> u32
-        ensures { λ r. ⌜ Encoded cookieValueCodec self (now (out .entry)) r (now (out .exit)) ⌝ }
-    {
-        if !self.is_sound() {
-            return 3;
-        }
-        if out.len() < FenceCookieValue::LEN {
-            return 4;
-        }
-        self.write(out);
         0
     }
 }

@@ -5,9 +5,8 @@ ghost use mathlib.Core.Path.{_≡_};
 ghost use mathlib.Core.Bool.{not};
 ghost use mathlib.Core.List.{[], _∷_};
 ghost use lib.Dec.{eqb};
-ghost use Rattle.octets.specs.Layout.{puts};
 ghost use Rattle.octets.specs.Codec.{asking, Built, Decoded, Encoded, sound};
-ghost use Rattle.records.specs.Current.{currentRule, currentControl, currentCodec, lifecycleOpen, retirementClosed};
+ghost use Rattle.records.specs.Current.{current, currentRule, currentControl, currentCodec, lifecycleOpen, retirementClosed};
 
 pub struct CurrentFenceToken {
     pub durable_fence_token: DurableFenceToken,
@@ -35,13 +34,16 @@ fn rule(zeros: u32, control: u32, token: u64, cookie: u64) -> bool
     }
 }
 
-// A refusal.
-fn refused(number: u32) -> CurrentAnswer
-    ensures { λ r. ⌜ (r .number ≡ number) × (r .value ≡ currentCodec .blank) ⌝ }
+fn answer(number: u32, token: u64, cookie: u64, retirement_closed: bool) -> CurrentAnswer
+    ensures { λ r. ⌜ (r .number ≡ number) × (r .value ≡ current token cookie «retirement_closed») ⌝ }
 {
     CurrentAnswer {
         number,
-        value: CurrentFenceToken::initial(),
+        value: CurrentFenceToken {
+            durable_fence_token: DurableFenceToken(token),
+            registered_socket_cookie: SocketCookie(cookie),
+            retirement_closed,
+        },
     }
 }
 
@@ -50,16 +52,10 @@ pub(crate) fn from_fields(zeros: u32, control: u32, token: u64, cookie: u64) -> 
     ensures { λ r. ⌜ Built currentCodec (zeros ∷ control ∷ token ∷ cookie ∷ []) (r .number) (r .value) ⌝ }
 {
     if rule(zeros, control, token, cookie) {
-        CurrentAnswer {
-            number: 0,
-            value: CurrentFenceToken {
-                durable_fence_token: DurableFenceToken(token),
-                registered_socket_cookie: SocketCookie(cookie),
-                retirement_closed: control == CurrentFenceToken::RETIREMENT_CLOSED_CONTROL,
-            },
-        }
+        let closed = control == CurrentFenceToken::RETIREMENT_CLOSED_CONTROL;
+        answer(0, token, cookie, closed)
     } else {
-        refused(2)
+        answer(2, 0, 0, false)
     }
 }
 
@@ -71,14 +67,10 @@ impl CurrentFenceToken {
     pub const RETIREMENT_CLOSED_CONTROL: u32 = 0x4f45_0202;
 
     // Before the first token is published.
-    pub fn initial() -> Self
-        ensures { λ r. ⌜ r ≡ currentCodec .blank ⌝ }
+    pub fn initial() -> CurrentAnswer
+        ensures { λ r. ⌜ Built currentCodec (0 ∷ 0 ∷ 0 ∷ 0 ∷ []) (r .number) (r .value) ⌝ }
     {
-        Self {
-            durable_fence_token: DurableFenceToken(0),
-            registered_socket_cookie: SocketCookie(0),
-            retirement_closed: false,
-        }
+        from_fields(0, 0, 0, 0)
     }
 
     pub fn lifecycle_open(durable_fence_token: DurableFenceToken) -> CurrentAnswer
@@ -113,7 +105,7 @@ impl CurrentFenceToken {
     {
         let cookie = registered_socket_cookie.0;
         if cookie == 0 {
-            return refused(2);
+            return answer(2, 0, 0, false);
         }
         from_fields(
             0,
@@ -177,7 +169,7 @@ impl CurrentFenceToken {
         ensures { λ r. ⌜ Decoded currentCodec (now (s .entry)) (r .number) (r .value) ⌝ }
     {
         if s.len() != CurrentFenceToken::LEN {
-            return refused(1);
+            return answer(1, 0, 0, false);
         }
         let zeros = octets::get_u32_le(s, 0);
         let control = octets::get_u32_le(s, 4);
@@ -186,28 +178,19 @@ impl CurrentFenceToken {
         from_fields(zeros, control, token, cookie)
     }
 
-    // The record's fields, put at the start.
-    fn write(self, out: &mut [u8])
-        ensures { λ r. ⌜ now (out .exit) ≡ puts (currentCodec .layout) (currentCodec .fields self) (now (out .entry)) 0 ⌝ }
+    pub fn encode(self, out: &mut [u8]) -> u32
+        ensures { λ r. ⌜ Encoded currentCodec self (now (out .entry)) r (now (out .exit)) ⌝ }
     {
+        let number = octets::encode_number(self.is_sound(), CurrentFenceToken::LEN, out.len());
+        if number != 0 {
+            return number;
+        }
         let token = self.durable_fence_token;
         let cookie = self.registered_socket_cookie;
         octets::put_u32_le(out, 0, 0);
         octets::put_u32_le(out, 4, self.control());
         octets::put_u64_le(out, 8, token.0);
         octets::put_u64_le(out, 16, cookie.0);
-    }
-
-    pub fn encode(self, out: &mut [u8]) -> u32
-        ensures { λ r. ⌜ Encoded currentCodec self (now (out .entry)) r (now (out .exit)) ⌝ }
-    {
-        if !self.is_sound() {
-            return 3;
-        }
-        if out.len() < CurrentFenceToken::LEN {
-            return 4;
-        }
-        self.write(out);
         0
     }
 }

@@ -4,9 +4,8 @@ use units::ControlEpoch;
 use units::DurableFenceToken;
 ghost use mathlib.Core.Path.{_≡_};
 ghost use mathlib.Core.List.{[], _∷_};
-ghost use Rattle.octets.specs.Layout.{puts};
 ghost use Rattle.octets.specs.Codec.{Built, Decoded, Encoded, sound};
-ghost use Rattle.records.specs.Entry.{controlOf, stateFrom, deadlineRule, stateRule, entryRule, entryCodec, closed, terminal, reclaiming};
+ghost use Rattle.records.specs.Entry.{controlOf, stateFrom, deadlineRule, stateRule, entryRule, entry, entryCodec, closed, terminal, reclaiming};
 
 pub enum FenceEntryState {
     // Registered, and not yet opened.
@@ -58,17 +57,16 @@ fn rule(zeros: u32, control: u32, token: u64, deadline: u64, epoch: u64) -> bool
     zeros == 0 && state_rule(control, token, deadline, epoch)
 }
 
-// A refusal.
-fn refused(number: u32) -> EntryAnswer
-    ensures { λ r. ⌜ (r .number ≡ number) × (r .value ≡ entryCodec .blank) ⌝ }
+fn answer(number: u32, state: FenceEntryState, token: u64, deadline: u64, epoch: u64) -> EntryAnswer
+    ensures { λ r. ⌜ (r .number ≡ number) × (r .value ≡ entry state token deadline epoch) ⌝ }
 {
     EntryAnswer {
         number,
         value: FenceEntry {
-            state: FenceEntryState::InitialClosed,
-            durable_fence_token: DurableFenceToken(0),
-            deadline_boot_ns: BootNs(0),
-            control_epoch: ControlEpoch(0),
+            state,
+            durable_fence_token: DurableFenceToken(token),
+            deadline_boot_ns: BootNs(deadline),
+            control_epoch: ControlEpoch(epoch),
         },
     }
 }
@@ -78,17 +76,10 @@ fn from_fields(zeros: u32, control: u32, token: u64, deadline: u64, epoch: u64) 
     ensures { λ r. ⌜ Built entryCodec (zeros ∷ control ∷ token ∷ deadline ∷ epoch ∷ []) (r .number) (r .value) ⌝ }
 {
     if rule(zeros, control, token, deadline, epoch) {
-        EntryAnswer {
-            number: 0,
-            value: FenceEntry {
-                state: FenceEntryState::from_control(control),
-                durable_fence_token: DurableFenceToken(token),
-                deadline_boot_ns: BootNs(deadline),
-                control_epoch: ControlEpoch(epoch),
-            },
-        }
+        let state = FenceEntryState::from_control(control);
+        answer(0, state, token, deadline, epoch)
     } else {
-        refused(2)
+        answer(2, FenceEntryState::InitialClosed, 0, 0, 0)
     }
 }
 
@@ -244,7 +235,7 @@ impl FenceEntry {
         ensures { λ r. ⌜ Decoded entryCodec (now (s .entry)) (r .number) (r .value) ⌝ }
     {
         if s.len() != FenceEntry::LEN {
-            return refused(1);
+            return answer(1, FenceEntryState::InitialClosed, 0, 0, 0);
         }
         let zeros = octets::get_u32_le(s, 0);
         let control = octets::get_u32_le(s, 4);
@@ -254,10 +245,13 @@ impl FenceEntry {
         from_fields(zeros, control, token, deadline, epoch)
     }
 
-    // The record's fields, put at the start.
-    fn write(self, out: &mut [u8])
-        ensures { λ r. ⌜ now (out .exit) ≡ puts (entryCodec .layout) (entryCodec .fields self) (now (out .entry)) 0 ⌝ }
+    pub fn encode(self, out: &mut [u8]) -> u32
+        ensures { λ r. ⌜ Encoded entryCodec self (now (out .entry)) r (now (out .exit)) ⌝ }
     {
+        let number = octets::encode_number(self.is_sound(), FenceEntry::LEN, out.len());
+        if number != 0 {
+            return number;
+        }
         let state = self.state;
         let token = self.durable_fence_token;
         let deadline = self.deadline_boot_ns;
@@ -267,18 +261,6 @@ impl FenceEntry {
         octets::put_u64_le(out, 8, token.0);
         octets::put_u64_le(out, 16, deadline.0);
         octets::put_u64_le(out, 24, epoch.0);
-    }
-
-    pub fn encode(self, out: &mut [u8]) -> u32
-        ensures { λ r. ⌜ Encoded entryCodec self (now (out .entry)) r (now (out .exit)) ⌝ }
-    {
-        if !self.is_sound() {
-            return 3;
-        }
-        if out.len() < FenceEntry::LEN {
-            return 4;
-        }
-        self.write(out);
         0
     }
 }

@@ -3,9 +3,8 @@ use units::DurableFenceToken;
 use units::SocketCookie;
 ghost use mathlib.Core.Path.{_≡_};
 ghost use mathlib.Core.List.{[], _∷_};
-ghost use Rattle.octets.specs.Layout.{puts};
 ghost use Rattle.octets.specs.Codec.{Built, Decoded, Encoded, sound};
-ghost use Rattle.records.specs.Key.{keyRule, keyCodec};
+ghost use Rattle.records.specs.Key.{key, keyRule, keyCodec};
 
 pub struct FenceCookieKey {
     pub socket_cookie: SocketCookie,
@@ -24,15 +23,14 @@ fn rule(cookie: u64, token: u64) -> bool
     cookie != 0 && token != 0
 }
 
-// A refusal.
-fn refused(number: u32) -> KeyAnswer
-    ensures { λ r. ⌜ (r .number ≡ number) × (r .value ≡ keyCodec .blank) ⌝ }
+fn answer(number: u32, cookie: u64, token: u64) -> KeyAnswer
+    ensures { λ r. ⌜ (r .number ≡ number) × (r .value ≡ key cookie token) ⌝ }
 {
     KeyAnswer {
         number,
         value: FenceCookieKey {
-            socket_cookie: SocketCookie(0),
-            durable_fence_token: DurableFenceToken(0),
+            socket_cookie: SocketCookie(cookie),
+            durable_fence_token: DurableFenceToken(token),
         },
     }
 }
@@ -44,15 +42,9 @@ impl FenceCookieKey {
         ensures { λ r. ⌜ Built keyCodec («socket_cookie» .0 ∷ «durable_fence_token» .0 ∷ []) (r .number) (r .value) ⌝ }
     {
         if rule(socket_cookie.0, durable_fence_token.0) {
-            KeyAnswer {
-                number: 0,
-                value: FenceCookieKey {
-                    socket_cookie,
-                    durable_fence_token,
-                },
-            }
+            answer(0, socket_cookie.0, durable_fence_token.0)
         } else {
-            refused(2)
+            answer(2, 0, 0)
         }
     }
 
@@ -80,33 +72,24 @@ impl FenceCookieKey {
         ensures { λ r. ⌜ Decoded keyCodec (now (s .entry)) (r .number) (r .value) ⌝ }
     {
         if s.len() != FenceCookieKey::LEN {
-            return refused(1);
+            return answer(1, 0, 0);
         }
         let cookie = octets::get_u64_le(s, 0);
         let token = octets::get_u64_le(s, 8);
         FenceCookieKey::new(SocketCookie(cookie), DurableFenceToken(token))
     }
 
-    // The record's fields, put at the start.
-    fn write(self, out: &mut [u8])
-        ensures { λ r. ⌜ now (out .exit) ≡ puts (keyCodec .layout) (keyCodec .fields self) (now (out .entry)) 0 ⌝ }
+    pub fn encode(self, out: &mut [u8]) -> u32
+        ensures { λ r. ⌜ Encoded keyCodec self (now (out .entry)) r (now (out .exit)) ⌝ }
     {
+        let number = octets::encode_number(self.is_sound(), FenceCookieKey::LEN, out.len());
+        if number != 0 {
+            return number;
+        }
         let cookie = self.socket_cookie;
         let token = self.durable_fence_token;
         octets::put_u64_le(out, 0, cookie.0);
         octets::put_u64_le(out, 8, token.0);
-    }
-
-    pub fn encode(self, out: &mut [u8]) -> u32
-        ensures { λ r. ⌜ Encoded keyCodec self (now (out .entry)) r (now (out .exit)) ⌝ }
-    {
-        if !self.is_sound() {
-            return 3;
-        }
-        if out.len() < FenceCookieKey::LEN {
-            return 4;
-        }
-        self.write(out);
         0
     }
 }

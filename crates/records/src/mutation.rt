@@ -1,9 +1,8 @@
 // The mutation authority, 16 bytes: the last completed generation, and the claim in flight.
 ghost use mathlib.Core.Path.{_≡_};
 ghost use mathlib.Core.List.{[], _∷_};
-ghost use Rattle.octets.specs.Layout.{puts};
 ghost use Rattle.octets.specs.Codec.{Built, Decoded, Encoded, sound};
-ghost use Rattle.records.specs.Mutation.{mutationRule, mutationCodec};
+ghost use Rattle.records.specs.Mutation.{mutation, mutationRule, mutationCodec};
 
 pub struct FenceMutationAuthority {
     pub generation: u64,
@@ -23,41 +22,35 @@ fn rule(generation: u64, claim: u64) -> bool
     claim == 0 || (generation < 0xffff_ffff_ffff_ffff && claim == generation + 1)
 }
 
-// A refusal.
-fn refused(number: u32) -> MutationAnswer
-    ensures { λ r. ⌜ (r .number ≡ number) × (r .value ≡ mutationCodec .blank) ⌝ }
+fn answer(number: u32, generation: u64, in_flight_claim: u64) -> MutationAnswer
+    ensures { λ r. ⌜ (r .number ≡ number) × (r .value ≡ mutation generation «in_flight_claim») ⌝ }
 {
     MutationAnswer {
         number,
-        value: FenceMutationAuthority::initial(),
+        value: FenceMutationAuthority {
+            generation,
+            in_flight_claim,
+        },
     }
 }
 
 impl FenceMutationAuthority {
     pub const LEN: usize = 16;
 
-    pub fn initial() -> Self
-        ensures { λ r. ⌜ r ≡ mutationCodec .blank ⌝ }
+    // Before the first generation.
+    pub fn initial() -> MutationAnswer
+        ensures { λ r. ⌜ Built mutationCodec (0 ∷ 0 ∷ []) (r .number) (r .value) ⌝ }
     {
-        Self {
-            generation: 0,
-            in_flight_claim: 0,
-        }
+        FenceMutationAuthority::new(0, 0)
     }
 
     pub fn new(generation: u64, in_flight_claim: u64) -> MutationAnswer
         ensures { λ r. ⌜ Built mutationCodec (generation ∷ «in_flight_claim» ∷ []) (r .number) (r .value) ⌝ }
     {
         if rule(generation, in_flight_claim) {
-            MutationAnswer {
-                number: 0,
-                value: FenceMutationAuthority {
-                    generation,
-                    in_flight_claim,
-                },
-            }
+            answer(0, generation, in_flight_claim)
         } else {
-            refused(2)
+            answer(2, 0, 0)
         }
     }
 
@@ -83,31 +76,22 @@ impl FenceMutationAuthority {
         ensures { λ r. ⌜ Decoded mutationCodec (now (s .entry)) (r .number) (r .value) ⌝ }
     {
         if s.len() != FenceMutationAuthority::LEN {
-            return refused(1);
+            return answer(1, 0, 0);
         }
         let generation = octets::get_u64_le(s, 0);
         let claim = octets::get_u64_le(s, 8);
         FenceMutationAuthority::new(generation, claim)
     }
 
-    // The record's fields, put at the start.
-    fn write(self, out: &mut [u8])
-        ensures { λ r. ⌜ now (out .exit) ≡ puts (mutationCodec .layout) (mutationCodec .fields self) (now (out .entry)) 0 ⌝ }
-    {
-        octets::put_u64_le(out, 0, self.generation);
-        octets::put_u64_le(out, 8, self.in_flight_claim);
-    }
-
     pub fn encode(self, out: &mut [u8]) -> u32
         ensures { λ r. ⌜ Encoded mutationCodec self (now (out .entry)) r (now (out .exit)) ⌝ }
     {
-        if !self.is_sound() {
-            return 3;
+        let number = octets::encode_number(self.is_sound(), FenceMutationAuthority::LEN, out.len());
+        if number != 0 {
+            return number;
         }
-        if out.len() < FenceMutationAuthority::LEN {
-            return 4;
-        }
-        self.write(out);
+        octets::put_u64_le(out, 0, self.generation);
+        octets::put_u64_le(out, 8, self.in_flight_claim);
         0
     }
 }

@@ -1,4 +1,7 @@
 -- `endpoint_of`: two stores into sixteen zeros are the octets of the two numbers. Assumes nothing.
+use mathlib.Core.Path.{ap, _∙_}
+use Rattle.octets.proofs.Calls.{free}
+use Rattle.records.specs.Config.{endpointOf}
 use Rattle.records.proofs.AddressLaws.{stored}
 use borrow.Author.Needs.{needs}
 use Rattle.records.proofs.config.endpoint_of.Statement.{statement}
@@ -10,11 +13,4 @@ returns c =
     rw (c .before .put-u64-le2 .ensures, first .put-u64-le .ensures, stored)
 
 pub endpoint-of-spec : {M : Type 1} → statement M
-endpoint-of-spec =
-    tie.close
-    (tie.spec
-    (λ c. search needs)
-    (λ c κs. search needs)
-    (λ c. search needs)
-    (λ c κs. search needs)
-    returns)
+endpoint-of-spec = tie.close (tie.spec (λ c. search needs) free (λ c. search needs) free returns)

@@ -1,7 +1,7 @@
 -- `frame_rule`: the tests are the definition's, in its order. Assumes nothing.
 use borrow.Author.Tests.{eq-eqb, ne-eqb}
+use Rattle.octets.proofs.Calls.{free}
 use Rattle.records.specs.Config.{frameRule}
-use borrow.Author.Needs.{needs}
 use Rattle.records.proofs.config.frame_rule.Statement.{statement}
 use Rattle.records.proofs.config.frame_rule.Tie as tie
 
@@ -29,5 +29,4 @@ unfolding frameRule
 returns-5 c = simp (ne-eqb _ _ (c .if1 .left))
 
 pub frame-rule-spec : {M : Type 1} → statement M
-frame-rule-spec =
-    tie.close (tie.spec (λ c κs. search needs) returns returns-2 returns-3 returns-4 returns-5)
+frame-rule-spec = tie.close (tie.spec free returns returns-2 returns-3 returns-4 returns-5)

@@ -1,9 +1,9 @@
 -- `from_fields`: the rule decides, and accepted numbers give their record. Assumes nothing.
-use mathlib.Core.Path.{refl}
+use mathlib.Core.Path.{refl, sym, _∙_}
 use borrow.Author.Tests.{not-true, not-false}
+use Rattle.octets.proofs.Calls.{free}
 use Rattle.octets.proofs.CodecLaws.{built-done, built-refused}
 use Rattle.records.specs.Config.{configCodec}
-use borrow.Author.Needs.{needs}
 use Rattle.records.proofs.config.from_fields.Statement.{statement}
 use Rattle.records.proofs.config.from_fields.Tie as tie
 
@@ -16,7 +16,7 @@ returns-2 : tie.Need-returns-2
 returns-2 c =
     let f = c .before .before .before .before .frame-rule in
     let e = c .before .before .endpoint-of .ensures in
-    built-done configCodec (simp (← f .ensures, not-false (f .result) (c .before .before .before .if1 .left), ← e, ← c .before .is-sound .ensures, c .if2 .taken)) refl (cc)
+    built-done configCodec (simp (← f .ensures, not-false (f .result) (c .before .before .before .if1 .left), ← e, ← c .before .is-sound .ensures, c .if2 .taken)) (refl, cc)
 
 returns-3 : tie.Need-returns-3
 returns-3 c =
@@ -25,14 +25,4 @@ returns-3 c =
     built-refused configCodec (simp (← f .ensures, not-false (f .result) (c .before .before .before .before .if1 .left), ← e, ← c .before .before .is-sound .ensures, c .before .if2 .left)) (c .refused2 .ensures)
 
 pub from-fields-spec : {M : Type 1} → statement M
-from-fields-spec =
-    tie.close
-    (tie.spec
-    (λ c κs. search needs)
-    (λ c κs. search needs)
-    returns
-    (λ c κs. search needs)
-    (λ c κs. search needs)
-    (λ c κs. search needs)
-    returns-2
-    returns-3)
+from-fields-spec = tie.close (tie.spec free free returns free free free returns-2 returns-3)

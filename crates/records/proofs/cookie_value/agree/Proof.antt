@@ -1,6 +1,6 @@
 -- `agree`: the tests are the definition's, in its order. Assumes nothing.
+use Rattle.octets.proofs.Calls.{free}
 use Rattle.records.specs.CookieValue.{agreeing}
-use borrow.Author.Needs.{needs}
 use Rattle.records.proofs.cookie_value.agree.Statement.{statement}
 use Rattle.records.proofs.cookie_value.agree.Tie as tie
 
@@ -19,4 +19,4 @@ unfolding agreeing
 returns-3 c = simp (← c .before .is-sound .ensures, c .if1 .left)
 
 pub agree-spec : {M : Type 1} → statement M
-agree-spec = tie.close (tie.spec (λ c κs. search needs) (λ c κs. search needs) returns returns-2 returns-3)
+agree-spec = tie.close (tie.spec free free returns returns-2 returns-3)

@@ -1,17 +1,15 @@
 -- `from_fields`: the rule decides, and accepted numbers give their record. Assumes nothing.
-use mathlib.Core.Path.{refl, sym, _∙_}
+use Rattle.octets.proofs.Calls.{free}
 use Rattle.octets.proofs.CodecLaws.{built-done, built-refused}
 use Rattle.records.specs.CookieValue.{cookieValueCodec}
-use borrow.Author.Needs.{needs}
 use Rattle.records.proofs.cookie_value.from_fields.Statement.{statement}
 use Rattle.records.proofs.cookie_value.from_fields.Tie as tie
 
 returns : tie.Need-returns
-returns c = built-done cookieValueCodec (sym (c .before .before .rule .ensures) ∙ c .before .if1 .taken) refl (cc)
+returns c = built-done cookieValueCodec (cc) (c .answer .ensures .0, cc)
 
 returns-2 : tie.Need-returns-2
-returns-2 c = built-refused cookieValueCodec (sym (c .before .before .rule .ensures) ∙ c .before .if1 .left) (c .refused .ensures)
+returns-2 c = built-refused cookieValueCodec (cc) (c .answer2 .ensures)
 
 pub from-fields-spec : {M : Type 1} → statement M
-from-fields-spec =
-    tie.close (tie.spec (λ c κs. search needs) (λ c κs. search needs) (λ c κs. search needs) returns returns-2)
+from-fields-spec = tie.close (tie.spec free free free free returns returns-2)

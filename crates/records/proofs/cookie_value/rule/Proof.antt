@@ -1,7 +1,7 @@
 -- `rule`: the zeros and the cookie, and then the rule on the state. Assumes nothing.
 use borrow.Author.Tests.{eq-eqb, ne-eqb}
+use Rattle.octets.proofs.Calls.{free}
 use Rattle.records.specs.CookieValue.{cookieValueRule}
-use borrow.Author.Needs.{needs}
 use Rattle.records.proofs.cookie_value.rule.Statement.{statement}
 use Rattle.records.proofs.cookie_value.rule.Tie as tie
 
@@ -18,4 +18,4 @@ unfolding cookieValueRule
 returns-3 c = simp (ne-eqb _ _ (c .if1 .left))
 
 pub rule-spec : {M : Type 1} → statement M
-rule-spec = tie.close (tie.spec (λ c κs. search needs) returns returns-2 returns-3)
+rule-spec = tie.close (tie.spec free returns returns-2 returns-3)

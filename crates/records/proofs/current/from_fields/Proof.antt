@@ -1,16 +1,15 @@
--- `from-fields`: the rule decides, and accepted numbers give their record. Assumes nothing.
-use mathlib.Core.Path.{refl, sym, _∙_}
+-- `from_fields`: the rule decides, and accepted numbers give their record. Assumes nothing.
+use Rattle.octets.proofs.Calls.{free}
 use Rattle.octets.proofs.CodecLaws.{built-done, built-refused}
 use Rattle.records.specs.Current.{currentCodec}
-use borrow.Author.Needs.{needs}
 use Rattle.records.proofs.current.from_fields.Statement.{statement}
 use Rattle.records.proofs.current.from_fields.Tie as tie
 
 returns : tie.Need-returns
-returns c = built-done currentCodec (sym (c .before .rule .ensures) ∙ c .if1 .taken) refl refl
+returns c = built-done currentCodec (cc) (c .answer .ensures)
 
 returns-2 : tie.Need-returns-2
-returns-2 c = built-refused currentCodec (sym (c .before .before .rule .ensures) ∙ c .before .if1 .left) (c .refused .ensures)
+returns-2 c = built-refused currentCodec (cc) (c .answer2 .ensures)
 
 pub from-fields-spec : {M : Type 1} → statement M
-from-fields-spec = tie.close (tie.spec (λ c κs. search needs) (λ c κs. search needs) returns returns-2)
+from-fields-spec = tie.close (tie.spec free free free returns returns-2)

@@ -1,7 +1,7 @@
 -- `rule`: the zeros, and then the rule on the state. Assumes nothing.
 use borrow.Author.Tests.{eq-eqb, ne-eqb}
+use Rattle.octets.proofs.Calls.{free}
 use Rattle.records.specs.Entry.{entryRule}
-use borrow.Author.Needs.{needs}
 use Rattle.records.proofs.entry.rule.Statement.{statement}
 use Rattle.records.proofs.entry.rule.Tie as tie
 
@@ -14,4 +14,4 @@ unfolding entryRule
 returns-2 c = simp (ne-eqb _ _ (c .if1 .left))
 
 pub rule-spec : {M : Type 1} → statement M
-rule-spec = tie.close (tie.spec (λ c κs. search needs) returns returns-2)
+rule-spec = tie.close (tie.spec free returns returns-2)

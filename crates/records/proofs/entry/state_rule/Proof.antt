@@ -1,7 +1,7 @@
 -- `state_rule`: the tests are the definition's, in its order. Assumes nothing.
 use borrow.Author.Tests.{eq-eqb, ne-eqb}
+use Rattle.octets.proofs.Calls.{free}
 use Rattle.records.specs.Entry.{stateRule}
-use borrow.Author.Needs.{needs}
 use Rattle.records.proofs.entry.state_rule.Statement.{statement}
 use Rattle.records.proofs.entry.state_rule.Tie as tie
 
@@ -18,4 +18,4 @@ unfolding stateRule
 returns-3 c = simp (eq-eqb _ _ (c .if1 .left))
 
 pub state-rule-spec : {M : Type 1} → statement M
-state-rule-spec = tie.close (tie.spec (λ c κs. search needs) returns returns-2 returns-3)
+state-rule-spec = tie.close (tie.spec free returns returns-2 returns-3)

@@ -1,7 +1,7 @@
 -- `head_is_right`: the tests are the definition's, in its order. Assumes nothing.
 use borrow.Author.Tests.{eq-eqb, ne-eqb}
+use Rattle.octets.proofs.Calls.{free}
 use Rattle.records.specs.Inspection.{headRule}
-use borrow.Author.Needs.{needs}
 use Rattle.records.proofs.inspection.head_is_right.Statement.{statement}
 use Rattle.records.proofs.inspection.head_is_right.Tie as tie
 
@@ -24,6 +24,4 @@ returns-3 c =
     rw (← g .before .before .get-u32-be .ensures, ← g .before .get-u16-le .ensures, ← g .get-u8 .ensures, ne-eqb _ _ (c .if1 .left))
 
 pub head-is-right-spec : {M : Type 1} → statement M
-head-is-right-spec =
-    tie.close
-    (tie.spec (λ c κs. search needs) (λ c κs. search needs) (λ c κs. search needs) returns returns-2 returns-3)
+head-is-right-spec = tie.close (tie.spec free free free returns returns-2 returns-3)

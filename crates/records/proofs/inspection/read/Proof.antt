@@ -1,13 +1,12 @@
 -- `read`: each part answers for its own bytes, in the order of the rule. Assumes nothing.
 use mathlib.Core.Path.{refl, sym, _∙_}
 use borrow.Author.Tests.{not-true, not-false}
+use Rattle.octets.proofs.Calls.{free}
 use Rattle.octets.specs.Octets.{octetsAt, le}
 use Rattle.octets.proofs.CodecLaws.{built-done, built-refused, done-ok, done-value, refused-ok}
 use Rattle.records.specs.Current.{currentCodec}
 use Rattle.records.specs.Mutation.{mutationCodec}
-use Rattle.records.specs.Inspected.{partCodec}
-use Rattle.records.specs.Inspection.{inspection, inspectionCodec}
-use borrow.Author.Needs.{needs}
+use Rattle.records.specs.Inspection.{partCodec, inspection, inspectionCodec}
 use Rattle.records.proofs.inspection.read.Statement.{statement}
 use Rattle.records.proofs.inspection.read.Tie as tie
 
@@ -71,27 +70,11 @@ returns-6 c =
     let current = done-ok currentCodec (r .current-part .ensures) (m .before .if3 .left) in
     let mutation = done-ok mutationCodec (m .mutation-part .ensures) (p .before .if4 .left) in
     let part = partCodec (le (octetsAt (h .before .before .args .s .now) 6 1)) in
-    built-done inspectionCodec (rw (right, tail, current, mutation, done-ok part (p .entry-part .ensures) (done .if5 .left))) refl
-    (λ i. inspection (done-value currentCodec (r .current-part .ensures) (m .before .if3 .left) i) (done-value mutationCodec (m .mutation-part .ensures) (p .before .if4 .left) i)
-    (done-value part (p .entry-part .ensures) (done .if5 .left) i))
+    built-done inspectionCodec (rw (right, tail, current, mutation, done-ok part (p .entry-part .ensures) (done .if5 .left))) (
+      refl,
+      λ i. inspection (done-value currentCodec (r .current-part .ensures) (m .before .if3 .left) i) (done-value mutationCodec (m .mutation-part .ensures) (p .before .if4 .left) i)
+          (done-value part (p .entry-part .ensures) (done .if5 .left) i),
+    )
 
 pub read-spec : {M : Type 1} → statement M
-read-spec =
-    tie.close
-    (tie.spec
-    (λ c κs. search needs)
-    (λ c κs. search needs)
-    returns
-    (λ c κs. search needs)
-    (λ c κs. search needs)
-    returns-2
-    (λ c κs. search needs)
-    (λ c κs. search needs)
-    returns-3
-    (λ c κs. search needs)
-    (λ c κs. search needs)
-    returns-4
-    (λ c κs. search needs)
-    (λ c κs. search needs)
-    returns-5
-    returns-6)
+read-spec = tie.close (tie.spec free free returns free free returns-2 free free returns-3 free free returns-4 free free returns-5 returns-6)

@@ -1,7 +1,7 @@
 -- `tail_is_zero`: one test for each number of the list. Assumes nothing.
 use borrow.Author.Tests.{eq-eqb, ne-eqb}
+use Rattle.octets.proofs.Calls.{free}
 use Rattle.octets.specs.Octets.{allZero}
-use borrow.Author.Needs.{needs}
 use Rattle.records.proofs.inspection.tail_is_zero.Statement.{statement}
 use Rattle.records.proofs.inspection.tail_is_zero.Tie as tie
 
@@ -18,14 +18,4 @@ returns-2 c =
     rw (← g .before .before .before .before .get-u64-le .ensures, ← g .before .before .before .get-u64-le2 .ensures, ← g .before .before .get-u64-le3 .ensures, ← g .before .get-u64-le4 .ensures, ← g .get-u64-le5 .ensures, ne-eqb _ _ (c .if1 .left))
 
 pub tail-is-zero-spec : {M : Type 1} → statement M
-tail-is-zero-spec =
-    tie.close
-    (tie.spec
-    (λ c κs. search needs)
-    (λ c κs. search needs)
-    (λ c κs. search needs)
-    (λ c κs. search needs)
-    (λ c κs. search needs)
-    (λ c κs. search needs)
-    returns
-    returns-2)
+tail-is-zero-spec = tie.close (tie.spec free free free free free free returns returns-2)

@@ -1,27 +1,11 @@
 -- `write_front`: one store for each field, in the order of the layout. Assumes nothing.
 use borrow.Author.Needs.{needs}
+use Rattle.octets.proofs.Calls.{free}
 use Rattle.records.proofs.inspection.write_front.Statement.{statement}
 use Rattle.records.proofs.inspection.write_front.Tie as tie
 
 returns : tie.Need-returns
-returns c =
-    let p6 = c .before .before in
-    let p5 = p6 .before .before .before .before in
-    let p4 = p5 .before .before .before .before in
-    let p3 = p4 .before .before .before .before in
-    let p2 = p3 .before .before .before .before in
-    let p1 = p2 .before .before .before .before in
-    rw (p6 .put-u64-le4 .ensures, p5 .put-u64-le3 .ensures, p4 .put-u64-le2 .ensures, p3 .put-u64-le .ensures, p2 .put-u32-le2 .ensures, p1 .put-u32-le .ensures)
+returns c = cc
 
 pub write-front-spec : {M : Type 1} → statement M
-write-front-spec =
-    tie.close
-    (tie.spec
-    (λ c κs. search needs)
-    (λ c κs. search needs)
-    (λ c κs. search needs)
-    (λ c κs. search needs)
-    (λ c κs. search needs)
-    (λ c κs. search needs)
-    (λ c. search needs)
-    returns)
+write-front-spec = tie.close (tie.spec free free free free free free (λ c. search needs) returns)

@@ -1,23 +1,11 @@
 -- `write_head`: one store for each field, in the order of the layout. Assumes nothing.
 use borrow.Author.Needs.{needs}
+use Rattle.octets.proofs.Calls.{free}
 use Rattle.records.proofs.inspection.write_head.Statement.{statement}
 use Rattle.records.proofs.inspection.write_head.Tie as tie
 
 returns : tie.Need-returns
-returns c =
-    let p4 = c .before .before in
-    let p3 = p4 .before .before .before .before in
-    let p2 = p3 .before .before .before .before in
-    let p1 = p2 .before .before .before .before in
-    rw (p4 .put-u82 .ensures, p3 .put-u8 .ensures, p2 .put-u16-le .ensures, p1 .put-u32-be .ensures)
+returns c = cc
 
 pub write-head-spec : {M : Type 1} → statement M
-write-head-spec =
-    tie.close
-    (tie.spec
-    (λ c κs. search needs)
-    (λ c κs. search needs)
-    (λ c κs. search needs)
-    (λ c κs. search needs)
-    (λ c. search needs)
-    returns)
+write-head-spec = tie.close (tie.spec free free free free (λ c. search needs) returns)

@@ -1,7 +1,7 @@
 -- `decode`: the length first, then the fields, whose numbers are those of the layout. Assumes nothing.
+use Rattle.octets.proofs.Calls.{free}
 use Rattle.octets.proofs.CodecLaws.{decode-length, decode-read}
 use Rattle.records.specs.Config.{configCodec}
-use borrow.Author.Needs.{needs}
 use Rattle.records.proofs.config.FenceConfig.decode.Statement.{statement}
 use Rattle.records.proofs.config.FenceConfig.decode.Tie as tie
 
@@ -34,20 +34,4 @@ returns-2 c =
     ) (c .from-fields .ensures))
 
 pub decode-spec : {M : Type 1} → statement M
-decode-spec =
-    tie.close
-    (tie.spec
-    (λ c κs. search needs)
-    returns
-    (λ c κs. search needs)
-    (λ c κs. search needs)
-    (λ c κs. search needs)
-    (λ c κs. search needs)
-    (λ c κs. search needs)
-    (λ c κs. search needs)
-    (λ c κs. search needs)
-    (λ c κs. search needs)
-    (λ c κs. search needs)
-    (λ c κs. search needs)
-    (λ c κs. search needs)
-    returns-2)
+decode-spec = tie.close (tie.spec free returns free free free free free free free free free free free returns-2)

@@ -1,6 +1,7 @@
 -- `is_sound`: the rule on the record's own numbers. Assumes nothing.
 use borrow.Author.Tests.{not-true, not-false}
 use borrow.Author.Needs.{needs}
+use Rattle.octets.proofs.Calls.{free}
 use Rattle.records.proofs.config.FenceConfig.is_sound.Statement.{statement}
 use Rattle.records.proofs.config.FenceConfig.is_sound.Tie as tie
 
@@ -19,15 +20,4 @@ returns-2 c =
     simp (← f .ensures, not-false (f .result) (frame .if1 .left), ← first .get-u64-le .ensures, ← second .get-u64-le2 .ensures, ← e .endpoint-of .ensures) (c .is-sound .ensures)
 
 pub is-sound-spec : {M : Type 1} → statement M
-is-sound-spec =
-    tie.close
-    (tie.spec
-    (λ c κs. search needs)
-    returns
-    (λ c. search needs)
-    (λ c κs. search needs)
-    (λ c. search needs)
-    (λ c κs. search needs)
-    (λ c κs. search needs)
-    (λ c κs. search needs)
-    returns-2)
+is-sound-spec = tie.close (tie.spec free returns (λ c. search needs) free (λ c. search needs) free free free returns-2)

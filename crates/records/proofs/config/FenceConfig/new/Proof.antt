@@ -1,5 +1,6 @@
 -- `new`: the numbers handed over are those of the record. Assumes nothing.
 use borrow.Author.Needs.{needs}
+use Rattle.octets.proofs.Calls.{free}
 use Rattle.records.proofs.config.FenceConfig.new.Statement.{statement}
 use Rattle.records.proofs.config.FenceConfig.new.Tie as tie
 
@@ -9,12 +10,4 @@ returns c =
     rw (← second .before .before .get-u64-le .ensures, ← second .get-u64-le2 .ensures) (c .from-fields .ensures)
 
 pub new-spec : {M : Type 1} → statement M
-new-spec =
-    tie.close
-    (tie.spec
-    (λ c. search needs)
-    (λ c κs. search needs)
-    (λ c. search needs)
-    (λ c κs. search needs)
-    (λ c κs. search needs)
-    returns)
+new-spec = tie.close (tie.spec (λ c. search needs) free (λ c. search needs) free free returns)

@@ -1,10 +1,10 @@
 -- `new`: what is asked of key and entry, and then the rule on the fields. Assumes nothing.
 use mathlib.Core.Path.{sym, _∙_}
 use borrow.Author.Tests.{not-true, not-false}
+use Rattle.octets.proofs.Calls.{free}
 use Rattle.octets.specs.Codec.{asking}
 use Rattle.octets.proofs.CodecLaws.{built-refused, built-asked}
 use Rattle.records.specs.CookieValue.{agreeing, cookieValueCodec}
-use borrow.Author.Needs.{needs}
 use Rattle.records.proofs.cookie_value.FenceCookieValue.new.Statement.{statement}
 use Rattle.records.proofs.cookie_value.FenceCookieValue.new.Tie as tie
 
@@ -12,7 +12,7 @@ returns : tie.Need-returns
 returns c =
     let a = c .before .before .agree in
     let b = agreeing (c .before .before .before .args .key) (c .before .before .before .args .entry) in
-    built-refused (asking b cookieValueCodec) (simp (← a .ensures, not-true (a .result) (c .before .if1 .taken))) (c .refused .ensures)
+    built-refused (asking b cookieValueCodec) (simp (← a .ensures, not-true (a .result) (c .before .if1 .taken))) (c .answer .ensures)
 
 returns-2 : tie.Need-returns-2
 returns-2 c =
@@ -22,12 +22,4 @@ returns-2 c =
     built-asked cookieValueCodec b (sym (a .ensures) ∙ not-false (a .result) (tested .if1 .left)) (rw (← c .before .control .ensures) (c .from-fields .ensures))
 
 pub new-spec : {M : Type 1} → statement M
-new-spec =
-    tie.close
-    (tie.spec
-    (λ c κs. search needs)
-    (λ c κs. search needs)
-    returns
-    (λ c κs. search needs)
-    (λ c κs. search needs)
-    returns-2)
+new-spec = tie.close (tie.spec free free returns free free returns-2)

@@ -2,17 +2,17 @@
 use mathlib.Core.Bool.{not}
 use lib.Dec.{eqb}
 use borrow.Author.Tests.{eq-eqb, ne-eqb}
+use Rattle.octets.proofs.Calls.{free}
 use Rattle.octets.specs.Codec.{asking}
 use Rattle.octets.proofs.CodecLaws.{built-refused, built-asked}
 use Rattle.records.specs.Current.{currentCodec}
-use borrow.Author.Needs.{needs}
 use Rattle.records.proofs.current.CurrentFenceToken.registered.Statement.{statement}
 use Rattle.records.proofs.current.CurrentFenceToken.registered.Tie as tie
 
 returns : tie.Need-returns
 returns c =
     let b = not (eqb (c .before .before .args .registered-socket-cookie .0) 0) in
-    built-refused (asking b currentCodec) (simp (eq-eqb _ _ (c .before .if1 .taken))) (c .refused .ensures)
+    built-refused (asking b currentCodec) (simp (eq-eqb _ _ (c .before .if1 .taken))) (c .answer .ensures)
 
 returns-2 : tie.Need-returns-2
 returns-2 c =
@@ -20,4 +20,4 @@ returns-2 c =
     built-asked currentCodec b (simp (ne-eqb _ _ (c .before .if1 .left))) (c .from-fields .ensures)
 
 pub registered-spec : {M : Type 1} → statement M
-registered-spec = tie.close (tie.spec (λ c κs. search needs) returns (λ c κs. search needs) returns-2)
+registered-spec = tie.close (tie.spec free returns free returns-2)

@@ -1,32 +1,15 @@
 -- `decode`: the length first, then the fields, whose numbers are those of the layout. Assumes nothing.
-use Rattle.octets.proofs.CodecLaws.{decode-length, decode-read}
+use Rattle.octets.proofs.Calls.{free}
+use Rattle.octets.proofs.CodecLaws.{built-of, decode-length, decode-read}
 use Rattle.records.specs.Entry.{entryCodec}
-use borrow.Author.Needs.{needs}
 use Rattle.records.proofs.entry.FenceEntry.decode.Statement.{statement}
 use Rattle.records.proofs.entry.FenceEntry.decode.Tie as tie
 
 returns : tie.Need-returns
-returns c = decode-length entryCodec (c .before .if1 .taken) (c .refused .ensures)
+returns c = decode-length entryCodec (c .before .if1 .taken) (c .answer .ensures)
 
 returns-2 : tie.Need-returns-2
-returns-2 c =
-    let g5 = c .before in
-    let g4 = g5 .before in
-    let g3 = g4 .before in
-    let g2 = g3 .before in
-    let g1 = g2 .before in
-    decode-read entryCodec (g1 .before .if1 .left) (rw (← g1 .get-u32-le .ensures, ← g2 .get-u32-le2 .ensures, ← g3 .get-u64-le .ensures, ← g4 .get-u64-le2 .ensures, ← g5 .get-u64-le3 .ensures) (c .from-fields .ensures))
+returns-2 c = decode-read entryCodec (cc) (built-of entryCodec (cc) (c .from-fields .ensures))
 
 pub decode-spec : {M : Type 1} → statement M
-decode-spec =
-    tie.close
-    (tie.spec
-    (λ c κs. search needs)
-    returns
-    (λ c κs. search needs)
-    (λ c κs. search needs)
-    (λ c κs. search needs)
-    (λ c κs. search needs)
-    (λ c κs. search needs)
-    (λ c κs. search needs)
-    returns-2)
+decode-spec = tie.close (tie.spec free returns free free free free free free returns-2)

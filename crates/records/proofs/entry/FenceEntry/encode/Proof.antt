@@ -1,32 +1,17 @@
--- `encode`: its three answers are those of every encoder. Assumes nothing.
-use mathlib.Core.Path.{sym, _∙_}
-use lib.Dec.{lit<}
-use Rattle.records.proofs.EntryLaws.{control-fits}
-use borrow.Author.Tests.{not-true, not-false}
-use Rattle.octets.proofs.CodecLaws.{encode-unsound, encode-short, encode-done}
-use Rattle.records.specs.Entry.{entryCodec}
+-- `encode`: its answers are those of every encoder; its stores are one for each field, in the order of the layout. Assumes nothing.
+use mathlib.Core.Path.{refl}
 use borrow.Author.Needs.{needs}
+use Rattle.octets.proofs.Calls.{free}
+use Rattle.octets.proofs.CodecLaws.{encode-refused, encode-written}
+use Rattle.records.specs.Entry.{entryCodec}
 use Rattle.records.proofs.entry.FenceEntry.encode.Statement.{statement}
 use Rattle.records.proofs.entry.FenceEntry.encode.Tie as tie
 
 returns : tie.Need-returns
-returns c =
-    let s = c .before .is-sound in
-    encode-unsound entryCodec _ _ (sym (s .ensures) ∙ not-true (s .result) (c .if1 .taken))
+returns c = encode-refused entryCodec (cc) (c .if1 .taken)
 
 returns-2 : tie.Need-returns-2
-returns-2 c =
-    let s = c .before .before .is-sound in
-    encode-short entryCodec _ _ (sym (s .ensures) ∙ not-false (s .result) (c .before .if1 .left)) (c .if2 .taken)
-
-returns-3 : tie.Need-returns-3
-returns-3 c =
-    let w = c .before .before .before .before in
-    let s = w .before .before .is-sound in
-    let a = w .before .before .before .before .args in
-    encode-done entryCodec _ _ _ (sym (s .ensures) ∙ not-false (s .result) (w .before .if1 .left)) (w .if2 .left)
-    (lit< tt, (control-fits (a .self .state), (search needs, (search needs, (search needs, tt))))) (c .before .before .write .ensures)
+returns-2 c = encode-written entryCodec (cc) refl (cc)
 
 pub encode-spec : {M : Type 1} → statement M
-encode-spec =
-    tie.close (tie.spec (λ c κs. search needs) returns returns-2 (λ c κs. search needs) (λ c. search needs) returns-3)
+encode-spec = tie.close (tie.spec free free returns free free free free free free (λ c. search needs) returns-2)

@@ -1,5 +1,5 @@
 -- `is_sound`: the rule on the record's own numbers. Assumes nothing.
-use borrow.Author.Needs.{needs}
+use Rattle.octets.proofs.Calls.{free}
 use Rattle.records.proofs.entry.FenceEntry.is_sound.Statement.{statement}
 use Rattle.records.proofs.entry.FenceEntry.is_sound.Tie as tie
 
@@ -7,4 +7,4 @@ returns : tie.Need-returns
 returns c = cc
 
 pub is-sound-spec : {M : Type 1} → statement M
-is-sound-spec = tie.close (tie.spec (λ c κs. search needs) (λ c κs. search needs) returns)
+is-sound-spec = tie.close (tie.spec free free returns)

@@ -1,7 +1,7 @@
 -- `decode`: the length first, then the fields. Assumes nothing.
+use Rattle.octets.proofs.Calls.{free}
 use Rattle.octets.proofs.CodecLaws.{decode-length, decode-read}
 use Rattle.records.specs.Inspection.{inspectionCodec}
-use borrow.Author.Needs.{needs}
 use Rattle.records.proofs.inspection.FenceInspection.decode.Statement.{statement}
 use Rattle.records.proofs.inspection.FenceInspection.decode.Tie as tie
 
@@ -12,4 +12,4 @@ returns-2 : tie.Need-returns-2
 returns-2 c = decode-read inspectionCodec (c .before .if1 .left) (c .read .ensures)
 
 pub decode-spec : {M : Type 1} → statement M
-decode-spec = tie.close (tie.spec (λ c κs. search needs) returns (λ c κs. search needs) returns-2)
+decode-spec = tie.close (tie.spec free returns free returns-2)

@@ -1,6 +1,6 @@
 -- `is_sound`: a record is sound where its parts are. Assumes nothing.
+use Rattle.octets.proofs.Calls.{free}
 use Rattle.records.proofs.InspectionLaws.{inspection-sound}
-use borrow.Author.Needs.{needs}
 use Rattle.records.proofs.inspection.FenceInspection.is_sound.Statement.{statement}
 use Rattle.records.proofs.inspection.FenceInspection.is_sound.Tie as tie
 
@@ -16,12 +16,4 @@ returns-3 : tie.Need-returns-3
 returns-3 c = rw (inspection-sound, ← c .before .is-sound .ensures, c .if1 .left)
 
 pub is-sound-spec : {M : Type 1} → statement M
-is-sound-spec =
-    tie.close
-    (tie.spec
-    (λ c κs. search needs)
-    (λ c κs. search needs)
-    (λ c κs. search needs)
-    returns
-    returns-2
-    returns-3)
+is-sound-spec = tie.close (tie.spec free free free returns returns-2 returns-3)

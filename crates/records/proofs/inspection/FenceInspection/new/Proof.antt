@@ -1,17 +1,17 @@
 -- `new`: a sound record is the one that its numbers stand for. Assumes nothing.
 use mathlib.Core.Path.{refl, sym, _∙_}
+use Rattle.octets.proofs.Calls.{free}
 use Rattle.octets.proofs.CodecLaws.{built-done, built-refused}
 use Rattle.records.specs.Inspection.{inspectionCodec}
 use Rattle.records.proofs.InspectionLaws.{inspection-forth}
-use borrow.Author.Needs.{needs}
 use Rattle.records.proofs.inspection.FenceInspection.new.Statement.{statement}
 use Rattle.records.proofs.inspection.FenceInspection.new.Tie as tie
 
 returns : tie.Need-returns
-returns c = built-done inspectionCodec (sym (c .before .is-sound .ensures) ∙ c .if1 .taken) refl (sym (inspection-forth _))
+returns c = built-done inspectionCodec (sym (c .before .is-sound .ensures) ∙ c .if1 .taken) (refl, sym (inspection-forth _))
 
 returns-2 : tie.Need-returns-2
 returns-2 c = built-refused inspectionCodec (sym (c .before .before .is-sound .ensures) ∙ c .before .if1 .left) (c .refused .ensures)
 
 pub new-spec : {M : Type 1} → statement M
-new-spec = tie.close (tie.spec (λ c κs. search needs) (λ c κs. search needs) returns returns-2)
+new-spec = tie.close (tie.spec free free returns returns-2)

@@ -1,12 +1,12 @@
 -- `present`: what the cookie value's numbers give, under flag 1. Assumes nothing.
 use mathlib.Core.Path.{refl, ap}
+use Rattle.octets.proofs.Calls.{free}
 use Rattle.octets.proofs.CodecLaws.{built-done, built-refused, done-ok, done-value, refused-ok}
-use Rattle.records.specs.declared.inspected.InspectedEntry.the-variants.{Present}
+use Rattle.records.specs.declared.inspection.InspectedEntry.the-variants.{Present}
 use Rattle.records.specs.CookieValue.{cookieValueCodec}
-use Rattle.records.specs.Inspected.{partRule, partCodec}
-use borrow.Author.Needs.{needs}
-use Rattle.records.proofs.inspected.present.Statement.{statement}
-use Rattle.records.proofs.inspected.present.Tie as tie
+use Rattle.records.specs.Inspection.{partRule, partCodec}
+use Rattle.records.proofs.inspection.present.Statement.{statement}
+use Rattle.records.proofs.inspection.present.Tie as tie
 
 returns : tie.Need-returns
 unfolding partRule
@@ -17,7 +17,7 @@ unfolding partRule
 returns-2 c =
     let r = c .before .before .before .from-fields .ensures in
     let z = c .before .if1 .left in
-    built-done (partCodec 1) (done-ok cookieValueCodec r z) refl (ap Present (done-value cookieValueCodec r z))
+    built-done (partCodec 1) (done-ok cookieValueCodec r z) (refl, ap Present (done-value cookieValueCodec r z))
 
 pub present-spec : {M : Type 1} → statement M
-present-spec = tie.close (tie.spec (λ c κs. search needs) (λ c κs. search needs) returns returns-2)
+present-spec = tie.close (tie.spec free free returns returns-2)

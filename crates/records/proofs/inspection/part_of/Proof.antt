@@ -1,12 +1,12 @@
 -- `part_of`: the flag chooses, as in the definition. Assumes nothing.
 use mathlib.Core.Path.{sym, _∙_}
 use borrow.Author.Tests.{eq-eqb, ne-eqb}
+use Rattle.octets.proofs.Calls.{free}
 use Rattle.octets.specs.Octets.{allZero}
 use Rattle.octets.proofs.CodecLaws.{built-done, built-refused}
-use Rattle.records.specs.Inspected.{partRule, partCodec}
-use borrow.Author.Needs.{needs}
-use Rattle.records.proofs.inspected.part_of.Statement.{statement}
-use Rattle.records.proofs.inspected.part_of.Tie as tie
+use Rattle.records.specs.Inspection.{partRule, partCodec}
+use Rattle.records.proofs.inspection.part_of.Statement.{statement}
+use Rattle.records.proofs.inspection.part_of.Tie as tie
 
 returns : tie.Need-returns
 unfolding partRule allZero
@@ -22,7 +22,7 @@ returns-3 c =
     let z = c .before .before in
     let k = z .before in
     rw (k .before .before .match .keys1) (built-done (partCodec 0) (rw (eq-eqb _ _ (k .before .if1 .left), eq-eqb _ _ (k .if2 .left)) (sym (z .four-zeros .ensures) ∙ c .before .if3 .taken))
-    (c .absent3 .ensures .0) (c .absent3 .ensures .1))
+    (c .absent3 .ensures))
 
 returns-4 : tie.Need-returns-4
 unfolding partRule allZero
@@ -42,19 +42,4 @@ returns-6 c =
     built-refused (partCodec (c .before .before .args .flag)) (rw (ne-eqb _ _ (none .0 .1), ne-eqb _ _ (none .1))) (c .absent5 .ensures)
 
 pub part-of-spec : {M : Type 1} → statement M
-part-of-spec =
-    tie.close
-    (tie.spec
-    (λ c κs. search needs)
-    returns
-    (λ c κs. search needs)
-    returns-2
-    (λ c κs. search needs)
-    (λ c κs. search needs)
-    (λ c κs. search needs)
-    (λ c κs. search needs)
-    (λ c κs. search needs)
-    returns-3
-    returns-4
-    returns-5
-    returns-6)
+part-of-spec = tie.close (tie.spec free returns free returns-2 free free free free free returns-3 returns-4 returns-5 returns-6)

@@ -1,9 +1,10 @@
 -- `is_sound`: by the two cases. Assumes nothing.
-use Rattle.records.specs.Inspected.{partRule}
+use Rattle.octets.proofs.Calls.{free}
+use Rattle.records.specs.Inspection.{partRule}
 use Rattle.octets.specs.Octets.{allZero}
 use borrow.Author.Needs.{needs}
-use Rattle.records.proofs.inspected.InspectedEntry.is_sound.Statement.{statement}
-use Rattle.records.proofs.inspected.InspectedEntry.is_sound.Tie as tie
+use Rattle.records.proofs.inspection.InspectedEntry.is_sound.Statement.{statement}
+use Rattle.records.proofs.inspection.InspectedEntry.is_sound.Tie as tie
 
 returns : tie.Need-returns
 unfolding partRule allZero
@@ -14,4 +15,4 @@ unfolding partRule
 returns-2 c = rw (c .before .before .self .given .1) (c .is-sound .ensures)
 
 pub is-sound-spec : {M : Type 1} → statement M
-is-sound-spec = tie.close (tie.spec (λ c. search needs) (λ c. search needs) (λ c κs. search needs) returns returns-2)
+is-sound-spec = tie.close (tie.spec (λ c. search needs) (λ c. search needs) free returns returns-2)

@@ -1,7 +1,7 @@
 -- `entry_part`: the numbers read are those of the layout at byte 48, and the flag at byte 6. Assumes nothing.
-use borrow.Author.Needs.{needs}
-use Rattle.records.proofs.inspected.entry_part.Statement.{statement}
-use Rattle.records.proofs.inspected.entry_part.Tie as tie
+use Rattle.octets.proofs.Calls.{free}
+use Rattle.records.proofs.inspection.entry_part.Statement.{statement}
+use Rattle.records.proofs.inspection.entry_part.Tie as tie
 
 returns : tie.Need-returns
 returns c =
@@ -15,15 +15,4 @@ returns c =
     rw (← g1 .get-u8 .ensures, ← g2 .get-u32-le .ensures, ← g3 .get-u32-le2 .ensures, ← g4 .get-u64-le .ensures, ← g5 .get-u64-le2 .ensures, ← g6 .get-u64-le3 .ensures, ← g7 .get-u64-le4 .ensures) (c .part-of .ensures)
 
 pub entry-part-spec : {M : Type 1} → statement M
-entry-part-spec =
-    tie.close
-    (tie.spec
-    (λ c κs. search needs)
-    (λ c κs. search needs)
-    (λ c κs. search needs)
-    (λ c κs. search needs)
-    (λ c κs. search needs)
-    (λ c κs. search needs)
-    (λ c κs. search needs)
-    (λ c κs. search needs)
-    returns)
+entry-part-spec = tie.close (tie.spec free free free free free free free free returns)

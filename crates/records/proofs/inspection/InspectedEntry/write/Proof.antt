@@ -1,0 +1,17 @@
+-- `write`: by the two cases. Assumes nothing.
+use borrow.Author.Needs.{needs}
+use Rattle.octets.proofs.Calls.{free}
+use Rattle.records.proofs.inspection.InspectedEntry.write.Statement.{statement}
+use Rattle.records.proofs.inspection.InspectedEntry.write.Tie as tie
+
+returns : tie.Need-returns
+returns c = rw (c .before .before .before .before .enum-told .given .1) (c .before .before .write-part .ensures)
+
+returns-2 : tie.Need-returns-2
+returns-2 c =
+    let control = c .before .before .before in
+    let told = control .before .before .before .before .before .before .before .self .given in
+    rw (told .1, ← control .control .ensures) (c .before .before .write-part2 .ensures)
+
+pub write-spec : {M : Type 1} → statement M
+write-spec = tie.close (tie.spec (λ c. search needs) free (λ c. search needs) free free (λ c. search needs) returns (λ c. search needs) returns-2)
