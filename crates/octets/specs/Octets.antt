@@ -1,4 +1,4 @@
--- Octets at a place of a slice, the number that octets spell, and the octets of a number, in both orders (RFC 1700, 'Data Notation':
+-- Octets at a place of a slice, the number that octets spell, and the octets of a number, in both orders (RFC 1700, 'Data Notations':
 -- network order has the most significant octet first). Assumes nothing.
 use Prim.Native.Nat.{ℕ, zero, suc, _+_, _*_, _/_, _%_, _<_}
 use mathlib.Core.Bool.{Bool, true, false, _&&_}
