@@ -9,7 +9,7 @@ use records::entry::FenceEntry;
 use records::inspection::FenceInspection;
 use records::key::FenceCookieKey;
 use records::mutation::FenceMutationAuthority;
-ghost use Prim.Native.Nat.{_≤_};
+ghost use Rattle.octets.specs.Words.{_≤_};
 
 // An output to encode into.
 const OUTPUT: [u8; 256] = [0xa5; 256];

@@ -16,7 +16,7 @@ use units::ControlEpoch;
 use units::DurableFenceToken;
 use units::RootCgroupId;
 use units::SocketCookie;
-ghost use Prim.Native.Nat.{_≤_};
+ghost use Rattle.octets.specs.Words.{_≤_};
 
 // Query 32: nothing.
 pub(crate) fn current_initial(body: &[u8], out: &mut [u8], at: usize) -> usize

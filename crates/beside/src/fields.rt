@@ -9,7 +9,7 @@ use records::inspection::FenceInspection;
 use records::inspection::InspectedEntry;
 use records::key::FenceCookieKey;
 use records::mutation::FenceMutationAuthority;
-ghost use Prim.Native.Nat.{_≤_};
+ghost use Rattle.octets.specs.Words.{_≤_};
 
 // Token, cookie, whether the lifecycle is open, whether it is closed by retirement: 18 bytes.
 pub(crate) fn put_current(value: CurrentFenceToken, out: &mut [u8], at: usize)

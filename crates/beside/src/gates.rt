@@ -9,8 +9,7 @@ use gate::Socket;
 use units::BootNs;
 use units::RootCgroupId;
 use units::SocketCookie;
-ghost use Prim.Native.Nat.{_+_, _*_, _≤_};
-ghost use lib.ListN.{length};
+ghost use Rattle.octets.specs.Words.{_+_, _*_, _≤_, length};
 
 // The fixed part of a query.
 const HEAD: usize = 91;

@@ -5,7 +5,7 @@ use deadline::RefreshDeadlineDecision;
 use endpoint::EndpointAnswer;
 use endpoint::ProtectedEndpoint;
 use units::BootNs;
-ghost use Prim.Native.Nat.{_≤_};
+ghost use Rattle.octets.specs.Words.{_≤_};
 
 fn decision_number(decision: RefreshDeadlineDecision) -> u8 {
     match decision {

@@ -15,8 +15,7 @@ mod verdicts;
 use libc::STDERR_FILENO;
 use libc::STDIN_FILENO;
 use libc::STDOUT_FILENO;
-ghost use Prim.Native.Nat.{_≤_, _<_};
-ghost use lib.ListN.{length};
+ghost use Rattle.octets.specs.Words.{_<_, _≤_, length};
 
 // More blocks than any stream has: so the loop over them is seen to end.
 const BLOCKS: u64 = 1_000_000_000_000;

@@ -1,7 +1,7 @@
 // Query 8: an endpoint, and a packet of any length. The answer is the disposition's number and the number of extension headers passed.
 use crate::leaves;
 use packet::PacketEndpointDisposition;
-ghost use Prim.Native.Nat.{_≤_};
+ghost use Rattle.octets.specs.Words.{_≤_};
 
 pub(crate) fn disposition_number(disposition: PacketEndpointDisposition) -> u8 {
     match disposition {

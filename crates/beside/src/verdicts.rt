@@ -12,7 +12,7 @@ use verdict::FenceAuthoritySnapshot;
 use verdict::FenceVerdict;
 use verdict::PacketFenceContext;
 use verdict::RegisteredEntry;
-ghost use Prim.Native.Nat.{_≤_};
+ghost use Rattle.octets.specs.Words.{_≤_};
 
 fn disposition_of(number: u8) -> PacketEndpointDisposition {
     match number {

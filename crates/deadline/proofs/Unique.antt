@@ -1,14 +1,11 @@
 -- The decision is the contract's alone: the contract gives its number, and no two decisions have one number. Assumes nothing.
-use Prim.Native.Nat.{ℕ}
-use mathlib.Core.Bool.{cond}
-use mathlib.Core.Path.{_≡_, refl, sym, ap, _∙_}
-use lib.Dec.{eqb}
+use Rattle.octets.specs.Words.{ℕ, _≡_, cond, eqb}
+use Rattle.octets.proofs.Tools.{refl, sym, ap, _∙_}
 use Rattle.octets.specs.Determined.{Determined}
 use Rattle.deadline.specs.Deadline.{decisionNumber}
 use Rattle.deadline.specs.declared.RefreshDeadlineDecision.{RefreshDeadlineDecision}
 use Rattle.deadline.specs.declared.RefreshDeadlineDecision.the-variants.{PriorExpired, RequestedDeadlineInvalid, DeadlineRegressed, Apply}
-use Rattle.deadline.proofs.evaluate_refresh_deadlines.Reads as evaluate
-use Rattle.deadline.proofs.evaluate_refresh_deadlines.Kinds as evaluate-kinds
+use Rattle.deadline.proofs as the
 
 -- the decision of a number
 decision : ℕ → RefreshDeadlineDecision
@@ -24,5 +21,5 @@ back Apply = refl
 pub decision-injective : (d e : RefreshDeadlineDecision) → decisionNumber d ≡ decisionNumber e → d ≡ e
 decision-injective d e h = sym (back d) ∙ ap decision h ∙ back e
 
-pub evaluate-refresh-deadlines-determined : Determined evaluate-kinds.ps evaluate-kinds.r evaluate.Learnt
+pub evaluate-refresh-deadlines-determined : Determined the.evaluate_refresh_deadlines.Kinds.ps the.evaluate_refresh_deadlines.Kinds.r the.evaluate_refresh_deadlines.Reads.Learnt
 evaluate-refresh-deadlines-determined κs a x y u v p q = (decision-injective x y (p ∙ sym q), refl)

@@ -1,7 +1,5 @@
 -- Document 01, 'Deadlines': whether a refresh may put a requested deadline in the place of the prior one. Assumes nothing.
-use Prim.Native.Nat.{ℕ, _-_}
-use mathlib.Core.Bool.{Bool, cond, _||_}
-use lib.Dec.{leb, ltb}
+use Rattle.octets.specs.Words.{ℕ, _-_, Bool, cond, _||_, ltb, leb}
 use Rattle.deadline.specs.declared.RefreshDeadlineDecision.{RefreshDeadlineDecision}
 use Rattle.deadline.specs.declared.RefreshDeadlineDecision.the-variants.{PriorExpired, RequestedDeadlineInvalid, DeadlineRegressed, Apply}
 

@@ -1,6 +1,6 @@
 // The refresh-deadline check: whether a requested deadline may take the place of the prior one.
 use units::BootNs;
-ghost use mathlib.Core.Path.{_≡_};
+ghost use Rattle.octets.specs.Words.{_≡_};
 ghost use Rattle.deadline.specs.Deadline.{decisionNumber, refreshDecision};
 
 // The ceiling on one deadline's lifetime, in nanoseconds of the boot clock.

@@ -1,9 +1,5 @@
 -- Document 01, 'Endpoint rules': which addresses and ports may be protected, and when a source matches. Assumes nothing.
-use Prim.Native.Nat.{ℕ, _/_}
-use mathlib.Core.Bool.{Bool, false, cond, not, _&&_, _||_}
-use mathlib.Core.List.{List, _++_}
-use lib.ListN.{getD, replicate}
-use lib.Dec.{ltb, eqb}
+use Rattle.octets.specs.Words.{ℕ, _/_, Bool, false, cond, not, _&&_, _||_, List, _++_, getD, replicate, eqb, ltb}
 use Rattle.octets.specs.Octets.{octetsAt, allZero, sameOctets}
 use Rattle.endpoint.specs.declared.ProtectedEndpoint.{ProtectedEndpoint}
 use Rattle.endpoint.specs.declared.EndpointAnswer.{EndpointAnswer}

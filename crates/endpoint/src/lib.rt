@@ -1,7 +1,5 @@
 // The protected endpoint: the one UDP source address and port that a fence guards.
-ghost use mathlib.Core.Path.{_≡_};
-ghost use mathlib.Core.List.{_++_};
-ghost use lib.ListN.{replicate};
+ghost use Rattle.octets.specs.Words.{_≡_, _++_, replicate};
 ghost use Rattle.octets.specs.Octets.{octetsAt};
 ghost use Rattle.endpoint.specs.Endpoint.{usableIpv4, usableIpv6, linkLocal, ipv4Mapped, soundEndpoint, made, ipv4Of, ipv6Of, matchesIpv4, matchesIpv6};
 

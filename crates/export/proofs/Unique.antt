@@ -1,8 +1,7 @@
 -- The answer of each exported function is its contract's alone: an equation whose right side is made of the arguments. Assumes nothing.
-use mathlib.Core.Path.{refl, sym, _∙_}
+use Rattle.octets.proofs.Tools.{refl, sym, _∙_}
 use Rattle.octets.specs.Determined.{Determined}
-use Rattle.export.proofs.threadwicket_classify.Reads as threadwicket-classify
-use Rattle.export.proofs.threadwicket_classify.Kinds as threadwicket-classify-kinds
+use Rattle.export.proofs as the
 
-pub threadwicket-classify-determined : Determined threadwicket-classify-kinds.ps threadwicket-classify-kinds.r threadwicket-classify.Learnt
+pub threadwicket-classify-determined : Determined the.threadwicket_classify.Kinds.ps the.threadwicket_classify.Kinds.r the.threadwicket_classify.Reads.Learnt
 threadwicket-classify-determined κs a x y u v p q = (p ∙ sym q, refl)

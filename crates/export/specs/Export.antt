@@ -1,5 +1,5 @@
 -- A reading as one number, for programs in other languages. Assumes nothing.
-use Prim.Native.Nat.{ℕ, _+_, _*_}
+use Rattle.octets.specs.Words.{ℕ, _+_, _*_}
 use Rattle.packet.specs.Reading.{Answer}
 
 -- the disposition's number, and 256 for each extension header passed

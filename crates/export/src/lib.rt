@@ -2,8 +2,7 @@
 // passes as a pointer and a length, a reference to an array as a pointer.
 use endpoint::ProtectedEndpoint;
 use packet::PacketEndpointDisposition;
-ghost use mathlib.Core.Path.{_≡_};
-ghost use Prim.Native.Nat.{_≤_};
+ghost use Rattle.octets.specs.Words.{_≤_, _≡_};
 ghost use Rattle.packet.specs.Answers.{dispositionNumber};
 ghost use Rattle.packet.specs.Reading.{classifyOf};
 ghost use Rattle.export.specs.Export.{readingNumber};

@@ -1,8 +1,7 @@
 -- The answer is the contract's alone: an equation whose right side is made of the arguments. Assumes nothing.
-use mathlib.Core.Path.{refl, sym, _∙_}
+use Rattle.octets.proofs.Tools.{refl, sym, _∙_}
 use Rattle.octets.specs.Determined.{Determined}
-use Rattle.export_gate.proofs.threadwicket_gate.Reads as threadwicket-gate
-use Rattle.export_gate.proofs.threadwicket_gate.Kinds as threadwicket-gate-kinds
+use Rattle.export_gate.proofs as the
 
-pub threadwicket-gate-determined : Determined threadwicket-gate-kinds.ps threadwicket-gate-kinds.r threadwicket-gate.Learnt
+pub threadwicket-gate-determined : Determined the.threadwicket_gate.Kinds.ps the.threadwicket_gate.Kinds.r the.threadwicket_gate.Reads.Learnt
 threadwicket-gate-determined κs a x y u v p q = (p ∙ sym q, refl)

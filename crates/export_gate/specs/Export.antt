@@ -1,5 +1,5 @@
 -- The gate's answer as one number, for programs in other languages. Assumes nothing.
-use Prim.Native.Nat.{ℕ, _+_, _*_}
+use Rattle.octets.specs.Words.{ℕ, _+_, _*_}
 use Rattle.verdict.specs.declared.CounterSlot.{CounterSlot}
 use Rattle.verdict.specs.declared.CounterSlot.the-variants.{Uncounted, Slot}
 use Rattle.gate.specs.Gate.{Answer as GateAnswer}

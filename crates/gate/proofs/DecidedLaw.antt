@@ -1,13 +1,8 @@
 -- The gate is `decide_egress` on what the records decode to. Where the rule that answers is none of 1, 6, 7 and 9, the gate's slot is
 -- the one that lib.rs's decision has for the packet's context and the authority's snapshot: the rules are gone through in their
 -- order, and each answers as the decision's test of the same place does. Assumes nothing.
-use Prim.Native.Nat.{ℕ, suc}
-use mathlib.Core.Path.{_≡_, refl, sym, ap, _∙_}
-use mathlib.Core.Bool.{Bool, true, false, cond, not, _||_, true≢false}
-use mathlib.Core.List.{List}
-use lib.ListN.{length, drop}
-use lib.Dec.{eqb}
-use borrow.Author.Tests.{eq-eqb, eqb-true, eqb-false, not-false}
+use Rattle.octets.specs.Words.{ℕ, suc, _≡_, Bool, true, false, cond, not, _||_, List, length, drop, eqb}
+use Rattle.octets.proofs.Tools.{refl, sym, ap, _∙_, true≢false, eq-eqb, eqb-true, eqb-false, not-false}
 use Rattle.octets.specs.Octets.{octetsAt, le}
 use Rattle.octets.specs.Layout.{fieldsAt}
 use Rattle.octets.specs.Codec.{decodeNumber, decodeValue}

@@ -1,12 +1,7 @@
 -- A packet's reading has one of the three dispositions: no answer has a number above 2. A step that stops does so with such a number,
 -- so a walk does, by induction on the allowance. Assumes nothing.
-use Prim.Native.Nat.{ℕ, zero, suc, _+_, _≤_}
-use mathlib.Core.Path.{_≡_, refl}
-use mathlib.Core.Bool.{not, _||_}
-use mathlib.Core.List.{List}
-use native.Mathlib.Omega.{arith}
-use lib.ListN.{length}
-use lib.Dec.{ltb, eqb}
+use Rattle.octets.specs.Words.{ℕ, zero, suc, _+_, _≤_, _≡_, not, _||_, List, length, eqb, ltb}
+use Rattle.octets.proofs.Tools.{refl, arith}
 use Rattle.octets.specs.Octets.{octetsAt, sameOctets}
 use Rattle.endpoint.specs.declared.ProtectedEndpoint.{ProtectedEndpoint}
 use Rattle.packet.specs.Answers.{dispositionNumber}

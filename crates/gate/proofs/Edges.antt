@@ -1,11 +1,7 @@
 -- Calls at the edges of the rules, and what answers them: one list under one statement, which the checker computes. Then two calls
 -- that demand 3 is about, and the gate that drops all: it meets demand 3, and is not this gate. Assumes nothing.
-use Prim.Native.Nat.{ℕ}
-use mathlib.Core.Path.{_≡_, refl, ap, _∙_}
-use mathlib.Core.Bool.{true, false}
-use mathlib.Core.List.{List, [], _∷_, _++_}
-use native.Mathlib.Omega.{arith}
-use lib.ListN.{set, replicate}
+use Rattle.octets.specs.Words.{ℕ, _≡_, true, false, List, [], _∷_, _++_, replicate, set}
+use Rattle.octets.proofs.Tools.{refl, ap, _∙_, arith}
 use Rattle.octets.specs.Octets.{octetsAt, le, be, leBytes, beBytes, allZero, sameOctets}
 use Rattle.octets.specs.Codec.{bytes, decodeNumber, decodeValue}
 use Rattle.endpoint.specs.Endpoint.{usableIpv4, usableIpv6, soundEndpoint}

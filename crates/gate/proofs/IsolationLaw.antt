@@ -1,12 +1,8 @@
 -- Demand 3 holds of the gate. The rules are gone through in their order: each applies to both calls or to neither. What a rule looks at
 -- is the same in both, the packet by the isolation of its reading; the tables are looked at only by rule 7, which passes both, and
 -- where a key is sought. Assumes nothing.
-use Prim.Native.Nat.{ℕ, suc}
-use mathlib.Core.Path.{_≡_, refl, sym, ap, _∙_}
-use mathlib.Core.Bool.{Bool, true, false, cond, not, _&&_, _||_, true≢false}
-use lib.ListN.{length, drop}
-use lib.Dec.{eqb}
-use borrow.Author.Tests.{not-false}
+use Rattle.octets.specs.Words.{ℕ, suc, _≡_, Bool, true, false, cond, not, _&&_, _||_, length, drop, eqb}
+use Rattle.octets.proofs.Tools.{refl, sym, ap, _∙_, true≢false, not-false}
 use Rattle.octets.specs.Codec.{decodeValue}
 use Rattle.records.specs.Config.{configCodec}
 use Rattle.records.specs.Current.{currentCodec}

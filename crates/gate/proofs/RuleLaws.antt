@@ -1,13 +1,7 @@
 -- The laws of the list of rules: the first rule that applies answers, one law over the list and the place; and what each test of the
 -- gate's code says of the rule that it stands for. Assumes nothing.
-use Prim.Native.Nat.{ℕ, zero, suc}
-use mathlib.Core.Path.{_≡_, refl, sym, ap, _∙_}
-use mathlib.Core.Bool.{Bool, true, false, cond, not, _&&_, _||_, true≢false}
-use mathlib.Core.List.{List, [], _∷_}
-use native.Mathlib.Omega.{arith}
-use lib.ListN.{length, drop}
-use lib.Dec.{eqb}
-use borrow.Author.Tests.{eq-eqb, ne-eqb, eqb-true, eqb-false, not-true, not-false}
+use Rattle.octets.specs.Words.{ℕ, zero, suc, _≡_, Bool, true, false, cond, not, _&&_, _||_, List, [], _∷_, length, drop, eqb}
+use Rattle.octets.proofs.Tools.{refl, sym, ap, _∙_, true≢false, arith, eq-eqb, ne-eqb, eqb-true, eqb-false, not-true, not-false}
 use Rattle.octets.specs.Codec.{Codec, Decoded}
 use Rattle.endpoint.specs.declared.ProtectedEndpoint.{ProtectedEndpoint}
 use Rattle.packet.specs.Reading.{classifyOf}
@@ -16,7 +10,8 @@ use Rattle.gate.specs.Table.{records, under, firstOf}
 use Rattle.records.specs.Config.{configCodec}
 use Rattle.verdict.specs.Verdict.{slotOf}
 use Rattle.verdict.specs.declared.CounterSlot.{CounterSlot}
-use Rattle.gate.specs.Gate.{Call, Rule, allow, rules, firstRule, answering, decodes, matches, root, endpoint, headersOf, gateOf, sourceOf, soughtRecord}
+use Rattle.gate.specs.Gate.{Call, Rule, allow, rules, firstRule, answering, decodes, matches, root, endpoint, headersOf, gateOf}
+use Rattle.gate.specs.Steps.{sourceOf, soughtRecord}
 use Rattle.gate.proofs.TableLaws.{first-found}
 
 -- ---- the list

@@ -1,11 +1,7 @@
 -- The first rule that applies answers: one law over the list, and what it says of the gate. A rule answers exactly if it applies and
 -- no earlier one does, and the gate's verdict is that rule's. Assumes nothing.
-use Prim.Native.Nat.{ℕ, zero, suc, _<_, _≤_}
-use mathlib.Core.Path.{_≡_, refl, ap, _∙_}
-use mathlib.Core.Bool.{Bool, true, false}
-use mathlib.Core.List.{List, [], _∷_}
-use native.Mathlib.Omega.{arith}
-use lib.ListN.{length}
+use Rattle.octets.specs.Words.{ℕ, zero, suc, _<_, _≤_, _≡_, Bool, true, false, List, [], _∷_, length}
+use Rattle.octets.proofs.Tools.{refl, ap, _∙_, arith}
 use Rattle.verdict.specs.Verdict.{slotOf}
 use Rattle.gate.specs.Gate.{Call, Rule, rules, firstRule, answering, gateOf}
 use Rattle.gate.proofs.RuleLaws.{at, over, here}

@@ -1,11 +1,8 @@
 -- The laws of `specs/Table.antt`: a table of forty bytes or more is a record and the rest, so a search at a place finds its record
 -- there, further on, or nowhere; and a record that is found has forty bytes, so that no bytes mean none. Assumes nothing.
-use mathlib.Core.Path.{_≡_, refl}
-use mathlib.Core.Bool.{Bool, true, false, cond}
-use mathlib.Core.List.{List, [], _∷_}
-use Prim.Native.Nat.{ℕ, zero, suc, _+_, _/_, _*_, _<_, _≤_}
-use native.Mathlib.Omega.{arith}
-use lib.ListN.{length, take, drop, length-take, length-drop}
+use Rattle.octets.specs.Words.{ℕ, zero, suc, _+_, _*_, _/_, _<_, _≤_, _≡_, Bool, true, false, cond, List, [], _∷_, length, take, drop}
+use Rattle.octets.proofs.Tools.{refl, arith}
+use lib.ListN.{length-take, length-drop}
 use lib.Seq.{drop-drop}
 use Rattle.gate.specs.Table.{recordsIn, records, isUnder, under, firstOf}
 

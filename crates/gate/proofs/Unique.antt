@@ -1,24 +1,20 @@
 -- The answer of each public function is its contract's alone. The gate's contract gives the slot and the count, and no two verdicts
 -- have one slot. Of the search's answer, a part of the caller's table, it is stated of the bytes: the contract does not say where
 -- they lie. Assumes nothing.
-use mathlib.Core.Path.{_≡_, refl, sym, ap, _∙_}
+use Rattle.octets.specs.Words.{_≡_}
+use Rattle.octets.proofs.Tools.{refl, sym, ap, _∙_}
 use denote.Ref.{now}
 use Rattle.octets.specs.Determined.{Determined}
 use Rattle.verdict.proofs.Unique.{slot-injective}
 use Rattle.gate.specs.Gate.{answerOf}
 use Rattle.gate.specs.Parts.{DeterminedPart}
 use Rattle.gate.specs.declared.GateAnswer.{GateAnswer}
-use Rattle.gate.proofs.find_record.Reads as find-record
-use Rattle.gate.proofs.find_record.Kinds as find-record-kinds
-use Rattle.gate.proofs.Socket.matches.Reads as matches
-use Rattle.gate.proofs.Socket.matches.Kinds as matches-kinds
-use Rattle.gate.proofs.gate.Reads as gate
-use Rattle.gate.proofs.gate.Kinds as gate-kinds
+use Rattle.gate.proofs as the
 
-pub find-record-determined : DeterminedPart find-record-kinds.ps find-record-kinds.r find-record.Learnt (λ κs x. now x)
+pub find-record-determined : DeterminedPart the.find_record.Kinds.ps the.find_record.Kinds.r the.find_record.Reads.Learnt (λ κs x. now x)
 find-record-determined κs a x y u v p q = (p ∙ sym q, refl)
 
-pub matches-determined : Determined matches-kinds.ps matches-kinds.r matches.Learnt
+pub matches-determined : Determined the.Socket.matches.Kinds.ps the.Socket.matches.Kinds.r the.Socket.matches.Reads.Learnt
 matches-determined κs a x y u v p q = (p ∙ sym q, refl)
 
 pub answer-injective : (x y : GateAnswer) → answerOf x ≡ answerOf y → x ≡ y
@@ -26,5 +22,5 @@ answer-injective x y e =
     let v : x .verdict ≡ y .verdict = slot-injective (x .verdict) (y .verdict) (ap (λ r. r .slot) e) in
     λ i. record { verdict = v i; headers = e i .headers }
 
-pub gate-determined : Determined gate-kinds.ps gate-kinds.r gate.Learnt
+pub gate-determined : Determined the.gate.Kinds.ps the.gate.Kinds.r the.gate.Reads.Learnt
 gate-determined κs a x y u v p q = (answer-injective x y (p ∙ sym q), refl)

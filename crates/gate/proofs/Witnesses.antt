@@ -1,10 +1,7 @@
 -- Each of the thirteen rules answers some call: one list of calls under one statement, which the checker computes. The last is the
 -- first line of document 01's case, and each other call differs from it in what its rule looks at. Assumes nothing.
-use Prim.Native.Nat.{ℕ}
-use mathlib.Core.Path.{_≡_, refl}
-use mathlib.Core.Bool.{false}
-use mathlib.Core.List.{List, [], _∷_, _++_}
-use lib.ListN.{set, replicate}
+use Rattle.octets.specs.Words.{ℕ, _≡_, false, List, [], _∷_, _++_, replicate, set}
+use Rattle.octets.proofs.Tools.{refl}
 use Rattle.octets.specs.Octets.{octetsAt, le, be, leBytes, beBytes, allZero, sameOctets}
 use Rattle.octets.specs.Codec.{bytes, decodeNumber, decodeValue}
 use Rattle.endpoint.specs.Endpoint.{usableIpv4, usableIpv6, soundEndpoint}

@@ -1,11 +1,6 @@
 -- What `decide_egress` is given when the records decode: the packet's context and the authority's snapshot of a call (lib.rs,
 -- `PacketFenceContext` and `FenceAuthoritySnapshot`). Assumes nothing.
-use Prim.Native.Nat.{ℕ}
-use mathlib.Core.Path.{_≡_}
-use mathlib.Core.Bool.{Bool, false, cond, _||_}
-use mathlib.Core.List.{[], _∷_}
-use lib.ListN.{length}
-use lib.Dec.{eqb}
+use Rattle.octets.specs.Words.{ℕ, _≡_, Bool, false, cond, _||_, [], _∷_, length, eqb}
 use Rattle.records.specs.CookieValue.{entryOf}
 use Rattle.packet.specs.Reading.{among}
 use Rattle.packet.specs.declared.PacketEndpointDisposition.{PacketEndpointDisposition}

@@ -1,9 +1,5 @@
 -- Document 01, 'The gate's thirteen rules': what a call is given, the rules in 01's order, and the answer. Assumes nothing.
-use Prim.Native.Nat.{ℕ}
-use mathlib.Core.Bool.{Bool, true, cond, not, _&&_, _||_}
-use mathlib.Core.List.{List, [], _∷_}
-use lib.ListN.{length}
-use lib.Dec.{leb, eqb}
+use Rattle.octets.specs.Words.{ℕ, Bool, true, cond, not, _&&_, _||_, List, [], _∷_, length, eqb, leb}
 use Rattle.octets.specs.Octets.{octetsAt, sameOctets}
 use Rattle.octets.specs.Codec.{Codec, decodeNumber, decodeValue}
 use Rattle.endpoint.specs.declared.ProtectedEndpoint.{ProtectedEndpoint}
@@ -14,7 +10,7 @@ use Rattle.records.specs.CookieValue.{cookieValueCodec}
 use Rattle.records.specs.declared.config.FenceConfig.{FenceConfig}
 use Rattle.records.specs.declared.current.CurrentFenceToken.{CurrentFenceToken}
 use Rattle.records.specs.declared.cookie_value.FenceCookieValue.{FenceCookieValue}
-use Rattle.packet.specs.Reading.{Answer as Reading, stop, classifyOf}
+use Rattle.packet.specs.Reading.{Answer as Reading, classifyOf}
 use Rattle.verdict.specs.Verdict.{slotOf}
 use Rattle.verdict.specs.declared.FenceVerdict.{FenceVerdict}
 use Rattle.verdict.specs.declared.FenceVerdict.the-variants.{PassUnrelated, Allow, DropCookieZero, DropMissing, DropClosed, DropExpired, DropStaleToken, DropMalformed}
@@ -153,24 +149,3 @@ gateOf c = record { slot = slotOf (answering c .verdict); headers = headersOf c 
 
 abbrev pub answerOf : GateAnswer → Answer
 answerOf r = record { slot = slotOf (r .verdict); headers = r .headers }
-
--- What the steps of a gate answer. "When the socket matches, the packet is not read": it counts as the endpoint's, with no header
-unfoldable pub sourceOf : Socket → List ℕ → ProtectedEndpoint → Reading
-sourceOf s p e = cond (matches s e) (stop 0 0) (classifyOf p e)
-
--- "Token 0 seeks nothing": the record that is sought under a key, or no bytes
-unfoldable pub soughtRecord : ℕ → ℕ → List ℕ → List ℕ
-soughtRecord k t table = cond (eqb t 0) [] (firstOf (under k t (records table)))
-
--- rules 5 to 13 look at the cookie, the current record, the table and the time alone: a call with these, and nothing else
-abbrev pub lookup : ℕ → List ℕ → List ℕ → ℕ → Call
-lookup k current table time = record {
-  config = [];
-  attachment = 0;
-  socket = record { family = 0; address = []; port = 0 };
-  packet = [];
-  cookie = k;
-  current = current;
-  table = table;
-  time = time;
-}

@@ -2,10 +2,7 @@
 -- record and boot time. All else may differ: of the packet its payload, its options, its destination, its checksums, every byte that
 -- is at no named place; of the table the records of other sockets and of other tokens, their number and their order, and later records
 -- under the same key. Then verdict and header count are the same. Assumes nothing.
-use mathlib.Core.Path.{_≡_}
-use mathlib.Core.Bool.{Bool, true, not, _&&_}
-use lib.ListN.{length}
-use lib.Dec.{eqb}
+use Rattle.octets.specs.Words.{_≡_, Bool, true, not, _&&_, length, eqb}
 use Rattle.records.specs.Current.{currentCodec}
 use Rattle.packet.specs.Places.{bytesAt, places}
 use Rattle.gate.specs.Table.{admissible, firstOf}

@@ -1,8 +1,6 @@
 -- Uniqueness of an answer that is a part of a lent slice: the contract says which bytes the part holds and not where they lie, so it is
 -- stated of what `view` shows of the result, its bytes. Assumes nothing.
-use Prim.Native.Nat.{ℕ}
-use mathlib.Core.Path.{_≡_}
-use mathlib.Core.List.{List}
+use Rattle.octets.specs.Words.{ℕ, _≡_, List}
 use contract.Lifetimes.{Lfts}
 use borrow.Fn.Kind.{PK, RK}
 use borrow.Fn.Kinds.{resT, Out, endedOf, Dens}

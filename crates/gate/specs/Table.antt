@@ -1,9 +1,5 @@
 -- A table of cookie values, and its records under a key (document 01, 'The gate's thirteen rules'). Assumes nothing.
-use Prim.Native.Nat.{ℕ, zero, suc, _/_, _%_}
-use mathlib.Core.Bool.{Bool, cond, _&&_}
-use mathlib.Core.List.{List, [], _∷_}
-use lib.ListN.{length, take, drop}
-use lib.Dec.{leb, eqb}
+use Rattle.octets.specs.Words.{ℕ, zero, suc, _/_, _%_, Bool, cond, _&&_, List, [], _∷_, length, take, drop, eqb, leb}
 use Rattle.octets.specs.Octets.{octetsAt, le}
 
 -- a record has 40 bytes; a table has at most 4,096 of them

@@ -11,15 +11,13 @@ use units::DurableFenceToken;
 use units::RootCgroupId;
 use units::SocketCookie;
 use verdict::FenceVerdict;
-ghost use mathlib.Core.Path.{_≡_};
-ghost use mathlib.Core.Bool.{not};
-ghost use lib.Dec.{eqb};
-ghost use lib.ListN.{drop};
+ghost use Rattle.octets.specs.Words.{_≡_, not, drop, eqb};
 ghost use Rattle.packet.specs.Answers as reading;
 ghost use Rattle.records.specs.Entry.{closed};
 ghost use Rattle.verdict.specs.Verdict.{slotOf};
 ghost use Rattle.gate.specs.Table.{admissible, records, isUnder, under, firstOf};
-ghost use Rattle.gate.specs.Gate.{sameAddress, matches, stale, expired, sourceOf, soughtRecord, rules, firstRule, lookup, gateOf, answerOf};
+ghost use Rattle.gate.specs.Gate.{sameAddress, matches, stale, expired, rules, firstRule, gateOf, answerOf};
+ghost use Rattle.gate.specs.Steps.{sourceOf, soughtRecord, lookup};
 
 // The longest table: 4,096 cookie values.
 pub const MAX_TABLE_LEN: usize = 163_840;

@@ -1,11 +1,7 @@
 -- Document 01, 'Examples to prove': one list under one statement, which the checker computes from the definitions alone. The endpoint
 -- is 192.0.2.10:4500. Assumes nothing.
-use Prim.Native.Nat.{ℕ}
-use mathlib.Core.Path.{_≡_, refl}
-use mathlib.Core.Bool.{Bool, true, false, not, _&&_}
-use mathlib.Core.List.{List, [], _∷_}
-use lib.ListN.{set, replicate}
-use lib.Dec.{eqb}
+use Rattle.octets.specs.Words.{ℕ, _≡_, Bool, true, false, not, _&&_, List, [], _∷_, replicate, set, eqb}
+use Rattle.octets.proofs.Tools.{refl}
 use Rattle.octets.specs.Octets.{octetsAt, le, be, sameOctets}
 use Rattle.octets.specs.Codec.{fieldsNumber, decodeNumber, decodeValue}
 use Rattle.deadline.specs.Deadline.{decisionNumber, refreshDecision}

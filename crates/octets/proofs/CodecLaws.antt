@@ -2,16 +2,11 @@
 -- themselves; an unsound record is given for no bytes (document 01's meaning of 3); and the answers of an encoder. A record owes
 -- `Lawful`, a fact on the numbers of its fields: that `fields` and `of` undo each other on what its rule accepts. The rest is the
 -- laws of layouts. Assumes nothing.
-use mathlib.Core.Path.{_≡_, refl, sym, ap, _∙_}
-use mathlib.Core.Bool.{Bool, true, false, cond, _&&_, true≢false}
-use mathlib.Core.List.{List}
-use Prim.Native.Nat.{ℕ, suc}
-use native.Mathlib.Omega.{arith}
-use lib.ListN.{length}
-use lib.Dec.{eqb, leb}
-use borrow.Author.Tests.{eqb-true, eq-eqb, ne-eqb, leb-true}
+use Rattle.octets.specs.Words.{ℕ, suc, _≡_, Bool, true, false, cond, _&&_, List, length, eqb, leb}
+use Rattle.octets.proofs.Tools.{refl, sym, ap, _∙_, true≢false, arith, eq-eqb, ne-eqb, eqb-true, leb-true}
 use Rattle.octets.specs.Octets.{Bytes}
-use Rattle.octets.specs.Layout.{size, fieldsAt, puts, Fit}
+use Rattle.octets.specs.Layout.{size, fieldsAt, Fit}
+use Rattle.octets.specs.Stores.{puts}
 use Rattle.octets.specs.Codec.{Codec, asking, fieldsNumber, fieldsValue, decodeNumber, decodeValue, sound, bytes, encodeAnswer, encodeNumber, encodeBytes, Built, Decoded, Encoded}
 use Rattle.octets.proofs.LayoutLaws.{laid-fields, fields-laid, length-laid, fit-length, puts-laid, put-laid}
 

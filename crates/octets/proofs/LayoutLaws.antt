@@ -1,13 +1,14 @@
 -- The laws of layouts, proved once for every record. Assumes nothing.
-use mathlib.Core.Path.{_≡_, refl, sym, ap, _∙_, subst}
-use mathlib.Core.List.{List, [], _∷_, _++_, append-assoc, append-nil}
-use Prim.Native.Nat.{ℕ, zero, suc, _+_, _<_, _≤_, _^_}
+use Rattle.octets.specs.Words.{ℕ, zero, suc, _+_, _^_, _<_, _≤_, _≡_, List, [], _∷_, _++_, length, drop}
+use Rattle.octets.proofs.Tools.{refl, sym, ap, _∙_, arith}
+use mathlib.Core.Path.{subst}
+use mathlib.Core.List.{append-assoc, append-nil}
 use native.Mathlib.Nat.{add-zero, zero-add, add-assoc}
-use native.Mathlib.Omega.{arith}
-use lib.ListN.{length, drop, length-append, drop-of-length-le}
+use lib.ListN.{length-append, drop-of-length-le}
 use Rattle.octets.specs.Octets.{Bytes, octetsAt, put, le, be, leBytes, beBytes}
 use Rattle.octets.proofs.OctetsLaws.{length-octets, length-leBytes, length-beBytes, le-leBytes, leBytes-le, be-beBytes, beBytes-be, put-append, put-in, Bytes-octets, octets-drop, octets-at}
-use Rattle.octets.specs.Layout.{Field, little, big, width, numberOf, bytesOf, size, fieldsAt, laid, puts, Fit}
+use Rattle.octets.specs.Layout.{Field, little, big, width, numberOf, bytesOf, size, fieldsAt, laid, Fit}
+use Rattle.octets.specs.Stores.{puts}
 
 -- ---- a field
 

@@ -1,6 +1,7 @@
 -- The laws of `octets`, which every crate above cites. Assumes nothing.
 pub mod OctetsLaws
+pub mod SameLaws
 pub mod LayoutLaws
 pub mod CodecLaws
-pub mod Calls
+pub mod Tools
 pub mod Unique

@@ -2,17 +2,15 @@
 -- other, a number is back from its octets and octets from their number, and what a store leaves where there is room and where there
 -- is none. Each goes by induction on the octets; the order with the most significant octet first is the other one reversed.
 -- Assumes nothing.
-use mathlib.Core.Path.{_≡_, refl, sym, ap, _∙_, subst}
-use Prim.Native.Nat.{ℕ, zero, suc, _+_, _-_, _*_, _/_, _%_, _^_, _<_, _≤_}
+use Rattle.octets.specs.Words.{ℕ, zero, suc, _+_, _-_, _*_, _/_, _%_, _^_, _<_, _≤_, _≡_, Bool, true, false, _&&_, List, [], _∷_, _++_, reverse, length, getD, take, drop, set, eqb}
+use Rattle.octets.proofs.Tools.{refl, sym, ap, _∙_, arith, eq-eqb, eqb-true}
+use mathlib.Core.Path.{subst}
 use native.Mathlib.Nat.{add-zero, zero-add, suc-add, add-suc, add-assoc, add-comm, mul-assoc, mul-comm, mul-add, div-div-eq-div-mul, pow-zero, pow-suc, pow-succ', div-one, one-mul, div-lt-iff-lt-mul, lt-of-lt-of-le}
 use native.Mathlib.Numerals.{add-one}
-use native.Mathlib.Omega.{arith}
-use mathlib.Core.Bool.{Bool, true, false, _&&_}
-use mathlib.Core.List.{List, [], _∷_, _++_, reverse, reverse-append, reverse-cons, reverse-reverse}
-use lib.ListN.{length, getD, set, take, drop, length-append, length-reverse, length-set, List·getD-eq-default}
+use mathlib.Core.List.{reverse-append, reverse-cons, reverse-reverse}
+use lib.ListN.{length-append, length-reverse, length-set, List·getD-eq-default}
 use lib.Arith.{mod-mul, digits-div, digits-mod}
-use lib.Dec.{lit<, eqb}
-use borrow.Author.Tests.{eq-eqb, eqb-true}
+use lib.Dec.{lit<}
 use lib.Seq.{set-out, drop-cons, sets, sets-eq, append-snoc, getD-append-seam}
 use Rattle.octets.specs.Octets.{Bytes, octetsAt, put, le, leBytes, be, beBytes, allZero, sameOctets}
 

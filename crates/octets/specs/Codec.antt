@@ -1,11 +1,6 @@
 -- A codec: what a record's bytes mean. What decoding and encoding give, for any record (document 01, 'Numbers given back').
 -- Assumes nothing.
-use Prim.Native.Nat.{ℕ}
-use mathlib.Core.Path.{_≡_}
-use mathlib.Core.Bool.{Bool, cond, _&&_}
-use mathlib.Core.List.{List, _++_}
-use lib.ListN.{length, drop}
-use lib.Dec.{leb, eqb}
+use Rattle.octets.specs.Words.{ℕ, _≡_, Bool, cond, _&&_, List, _++_, length, drop, eqb, leb}
 use Rattle.octets.specs.Layout.{Field, size, fieldsAt, laid}
 
 pub record Codec (R : Type 0) : Type 0 where

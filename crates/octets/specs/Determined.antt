@@ -1,7 +1,5 @@
 -- Uniqueness of an answer, from a contract alone (document 01, 'How tight the contracts are'). Assumes nothing.
-use Prim.Native.Nat.{ℕ}
-use mathlib.Core.Path.{_≡_}
-use mathlib.Core.List.{List}
+use Rattle.octets.specs.Words.{ℕ, _≡_, List}
 use contract.Lifetimes.{Lfts}
 use borrow.Fn.Kind.{PK, RK}
 use borrow.Fn.Kinds.{resT, Out, endedOf, Dens}

@@ -1,8 +1,7 @@
 -- Layouts: a record's bytes are fields side by side, each a number of so many octets in one of the two orders
 -- (document 01, 'Record layouts': "Numbers are little-endian except the port"). Assumes nothing.
-use Prim.Native.Nat.{ℕ, _+_, _<_, _^_}
-use mathlib.Core.List.{List, [], _∷_, _++_}
-use Rattle.octets.specs.Octets.{octetsAt, put, le, be, leBytes, beBytes}
+use Rattle.octets.specs.Words.{ℕ, _+_, _^_, _<_, List, [], _∷_, _++_}
+use Rattle.octets.specs.Octets.{octetsAt, le, be, leBytes, beBytes}
 
 -- a field of n octets, least or most significant first
 pub data Field : Type 0 where
@@ -37,12 +36,6 @@ abbrev pub laid : List Field → List ℕ → List ℕ
 laid [] vs = []
 laid (f ∷ fs) [] = []
 laid (f ∷ fs) (v ∷ vs) = bytesOf f v ++ laid fs vs
-
--- d with the fields' octets from the place at on, one field after the other
-abbrev pub puts : List Field → List ℕ → List ℕ → ℕ → List ℕ
-puts [] vs d at = d
-puts (f ∷ fs) [] d at = d
-puts (f ∷ fs) (v ∷ vs) d at = puts fs vs (put d at (bytesOf f v)) (at + width f)
 
 -- there is a number for each field, and it fits
 abbrev pub Fit : List Field → List ℕ → Type 0

@@ -1,10 +1,6 @@
 -- Octets at a place of a slice, the number that octets spell, and the octets of a number, in both orders (RFC 1700, 'Data Notations':
 -- network order has the most significant octet first). Assumes nothing.
-use Prim.Native.Nat.{ℕ, zero, suc, _+_, _*_, _/_, _%_, _<_}
-use mathlib.Core.Bool.{Bool, true, false, _&&_}
-use mathlib.Core.List.{List, [], _∷_, reverse}
-use lib.ListN.{getD, set}
-use lib.Dec.{eqb}
+use Rattle.octets.specs.Words.{ℕ, zero, suc, _+_, _*_, _/_, _%_, _<_, Bool, true, false, _&&_, List, [], _∷_, reverse, getD, set, eqb}
 
 -- every element is an octet
 abbrev pub Bytes : List ℕ → Type 0

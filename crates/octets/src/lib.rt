@@ -3,7 +3,7 @@
 //
 // Every function is total: an octet past the end of a slice reads as 0, and one written there is dropped. So a caller has no
 // fact to show. A caller that has tested the length first pays for no second test: the compiler folds them.
-ghost use mathlib.Core.Path.{_≡_};
+ghost use Rattle.octets.specs.Words.{_≡_};
 ghost use Rattle.octets.specs.Octets.{octetsAt, le, be, put, leBytes, beBytes, allZero, sameOctets};
 ghost use Rattle.octets.specs.Codec.{encodeAnswer};
 

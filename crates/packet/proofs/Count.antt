@@ -1,12 +1,7 @@
 -- Document 01: "the number of extension headers passed, 0 to 4 .. IPv4 gives 0, as does every answer before the walk". A walk passes
 -- at most as many headers as its allowance has, by induction on the allowance; what stops before it has passed none. Assumes nothing.
-use Prim.Native.Nat.{ℕ, zero, suc, _≤_}
-use mathlib.Core.Path.{_≡_, refl}
-use mathlib.Core.Bool.{not, _||_}
-use mathlib.Core.List.{List}
-use native.Mathlib.Omega.{arith}
-use lib.ListN.{length}
-use lib.Dec.{eqb}
+use Rattle.octets.specs.Words.{ℕ, zero, suc, _≤_, _≡_, not, _||_, List, length, eqb}
+use Rattle.octets.proofs.Tools.{refl, arith}
 use Rattle.endpoint.specs.declared.ProtectedEndpoint.{ProtectedEndpoint}
 use Rattle.packet.specs.Rfc791.{version}
 use Rattle.packet.specs.Reading.{Answer, Outcome, settled, onward, follow, stop, sortOf, udpOf, stepOf, walkOf, ipv4Head, ipv4Of, ipv6Head, ipv6Of, known, classifyOf}

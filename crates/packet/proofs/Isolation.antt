@@ -1,14 +1,9 @@
 -- Demand 3 for the classifier: a packet's answer depends on its named places alone. The places of a step are chosen by the very tests
 -- that the step makes before it reads, so packets that agree there take the same step; a walk is its steps, by induction on the
 -- allowance. Past the end every byte reads as 0, so the places inside the packet suffice. Assumes nothing.
-use Prim.Native.Nat.{ℕ, zero, suc, _+_, _*_, _≤_}
-use mathlib.Core.Path.{_≡_, refl, ap}
-use mathlib.Core.Bool.{Bool, true, false, cond, not, _||_}
-use mathlib.Core.List.{List, [], _∷_, _++_}
-use native.Mathlib.Omega.{arith}
-use lib.ListN.{length, getD, List·getD-eq-default}
-use lib.Dec.{ltb, eqb}
-use borrow.Author.Tests.{ltb-false}
+use Rattle.octets.specs.Words.{ℕ, zero, suc, _+_, _*_, _≤_, _≡_, Bool, true, false, cond, not, _||_, List, [], _∷_, _++_, length, getD, eqb, ltb}
+use Rattle.octets.proofs.Tools.{refl, ap, arith, ltb-false}
+use lib.ListN.{List·getD-eq-default}
 use Rattle.octets.specs.Octets.{octetsAt, le}
 use Rattle.endpoint.specs.declared.ProtectedEndpoint.{ProtectedEndpoint}
 use Rattle.packet.specs.Rfc791.{version}

@@ -1,16 +1,10 @@
 -- Laws of the definitions, which the proofs of the functions cite: what the sorting gives for the groups of a `match`, room told by a
--- subtraction, octets compared as numbers, and the walk a step at a time. Assumes nothing.
-use Prim.Native.Nat.{ℕ, zero, suc, _+_, _-_, _*_, _≤_, _<_}
-use mathlib.Core.Path.{_≡_, refl, sym, ap, _∙_}
-use mathlib.Core.Bool.{Bool, true, false, cond, not, _&&_, _||_}
+-- subtraction, and the walk a step at a time. Assumes nothing.
+use Rattle.octets.specs.Words.{ℕ, zero, suc, _+_, _-_, _*_, _<_, _≤_, _≡_, Bool, true, false, cond, not, _&&_, _||_, List, getD, eqb, ltb}
+use Rattle.octets.proofs.Tools.{refl, sym, ap, _∙_, arith, eq-eqb, ne-eqb, lt-ltb, le-ltb, eqb-true, eqb-false, ltb-true, ltb-false}
 use mathlib.Core.Logic.{_⊎_, inl, inr, ⊎-elim}
-use mathlib.Core.List.{List}
 use native.Mathlib.Nat.{eq-or-lt-of-le, zero-add, add-zero, suc-add, mul-le-mul-right}
 use native.Mathlib.Numerals.{sub-one}
-use native.Mathlib.Omega.{arith}
-use lib.ListN.{getD}
-use lib.Dec.{ltb, eqb}
-use borrow.Author.Tests.{eq-eqb, ne-eqb, eqb-true, eqb-false, lt-ltb, le-ltb, ltb-true, ltb-false}
 use Rattle.octets.specs.Octets.{Bytes, octetsAt, le, sameOctets}
 use Rattle.packet.specs.declared.PacketEndpointDisposition.{PacketEndpointDisposition}
 use Rattle.packet.specs.declared.Step.{Step}
@@ -74,44 +68,6 @@ either-way false x = refl
 pub other-way : {A : Type 0} (b : Bool) (x y : A) → cond b x y ≡ cond (not b || false) y x
 other-way true x y = refl
 other-way false x y = refl
-
--- ---- octets compared as numbers
-
-digit-same : (x y p q : ℕ) → x < 256 → y < 256 → (eqb x y && eqb p q) ≡ eqb (x + 256 * p) (y + 256 * q)
-digit-same x y p q a b = go (eqb x y) (eqb p q) refl refl
-  where
-    go : (t u : Bool) → eqb x y ≡ t → eqb p q ≡ u → (t && u) ≡ eqb (x + 256 * p) (y + 256 * q)
-    go true true e f = sym (eq-eqb (x + 256 * p) (y + 256 * q) (omega (arith, eqb-true x y e, eqb-true p q f)))
-    go true false e f = sym (ne-eqb (x + 256 * p) (y + 256 * q) (λ d. eqb-false p q f (omega arith)))
-    go false u e f = sym (ne-eqb (x + 256 * p) (y + 256 * q) (λ d. eqb-false x y e (omega arith)))
-
--- octets are the same where their numbers are
-pub same-numbers : (s t : List ℕ) (i j n : ℕ) → Bytes s → Bytes t →
-    eqb (le (octetsAt s i n)) (le (octetsAt t j n)) ≡ sameOctets (octetsAt s i n) (octetsAt t j n)
-unfolding le octetsAt sameOctets
-same-numbers s t i j zero a b = refl
-same-numbers s t i j (suc n) a b =
-    sym (digit-same (getD s i 0) (getD t j 0) _ _ (a i) (b j)) ∙ ap (λ r. eqb (getD s i 0) (getD t j 0) && r) (same-numbers s t (i + 1) (j + 1) n a b)
-
-and-assoc : (a b c : Bool) → (a && (b && c)) ≡ ((a && b) && c)
-and-assoc true b c = refl
-and-assoc false b c = refl
-
--- and n + m octets where the first n are and the other m
-same-parts : (s t : List ℕ) (i j n m : ℕ) →
-    sameOctets (octetsAt s i (n + m)) (octetsAt t j (n + m)) ≡ (sameOctets (octetsAt s i n) (octetsAt t j n) && sameOctets (octetsAt s (i + n) m) (octetsAt t (j + n) m))
-unfolding octetsAt sameOctets
-same-parts s t i j zero m = rw (zero-add, add-zero i, add-zero j)
-same-parts s t i j (suc n) m =
-    let u : i + 1 + n ≡ i + suc n = omega arith in
-    let v : j + 1 + n ≡ j + suc n = omega arith in
-    rw (suc-add, same-parts s t (i + 1) (j + 1) n m, u, v) (and-assoc (eqb (getD s i 0) (getD t j 0)) _ _)
-
--- so n + m octets are compared as two numbers
-pub same-halves : (s t : List ℕ) (i j n m : ℕ) → Bytes s → Bytes t →
-    sameOctets (octetsAt s i (n + m)) (octetsAt t j (n + m)) ≡
-    (eqb (le (octetsAt s i n)) (le (octetsAt t j n)) && eqb (le (octetsAt s (i + n) m)) (le (octetsAt t (j + n) m)))
-same-halves s t i j n m a b = rw (same-parts s t i j n m, same-numbers s t i j n a b, same-numbers s t (i + n) (j + n) m a b)
 
 -- ---- the walk, a step at a time
 

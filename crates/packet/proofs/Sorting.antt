@@ -1,14 +1,9 @@
 -- Document 01's sorting covers every next-header value once: of its six lines exactly one has the value, and that line's class is the
 -- one that the sorting gives. One test over the 256 values, which the checker computes. Assumes nothing.
-use Prim.Native.Nat.{ℕ, zero, suc, _<_}
-use mathlib.Core.Path.{_≡_, refl}
-use mathlib.Core.Bool.{Bool, true, false, cond, _&&_}
-use mathlib.Core.List.{List, [], _∷_}
+use Rattle.octets.specs.Words.{ℕ, zero, suc, _<_, _≡_, Bool, true, false, cond, _&&_, List, [], _∷_, eqb}
+use Rattle.octets.proofs.Tools.{refl, arith, eqb-true}
 use mathlib.Core.Logic.{⊎-elim}
 use native.Mathlib.Nat.{eq-or-lt-of-le}
-use native.Mathlib.Omega.{arith}
-use lib.Dec.{eqb}
-use borrow.Author.Tests.{eqb-true}
 use Rattle.packet.specs.Reading.{among, sortOf}
 
 -- the values of 01's lines, a list to a class: port test, Unrelated, 8(n + 1), 4(n + 2), Fragment

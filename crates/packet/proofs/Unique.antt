@@ -1,16 +1,13 @@
 -- The reading is the contract's alone: the contract gives the disposition's number and the count, and no two dispositions have one
 -- number, since `disposed` gives each back from its own. Assumes nothing.
-use Prim.Native.Nat.{ℕ}
-use mathlib.Core.Bool.{cond}
-use mathlib.Core.Path.{_≡_, refl, sym, ap, _∙_}
-use lib.Dec.{eqb}
+use Rattle.octets.specs.Words.{ℕ, _≡_, cond, eqb}
+use Rattle.octets.proofs.Tools.{refl, sym, ap, _∙_}
 use Rattle.octets.specs.Determined.{Determined}
 use Rattle.packet.specs.Answers.{dispositionNumber, answerOf}
 use Rattle.packet.specs.declared.PacketEndpointDisposition.{PacketEndpointDisposition}
 use Rattle.packet.specs.declared.PacketEndpointDisposition.the-variants.{Protected, Unrelated, Indeterminate}
 use Rattle.packet.specs.declared.PacketReading.{PacketReading}
-use Rattle.packet.proofs.classify_l3_udp_source.Reads as classify
-use Rattle.packet.proofs.classify_l3_udp_source.Kinds as classify-kinds
+use Rattle.packet.proofs as the
 
 -- the disposition of a number
 disposed : ℕ → PacketEndpointDisposition
@@ -30,5 +27,5 @@ reading-injective x y e =
     let d : x .disposition ≡ y .disposition = disposition-injective (x .disposition) (y .disposition) (ap (λ r. r .disposition) e) in
     λ i. record { disposition = d i; headers = e i .headers }
 
-pub classify-l3-udp-source-determined : Determined classify-kinds.ps classify-kinds.r classify.Learnt
+pub classify-l3-udp-source-determined : Determined the.classify_l3_udp_source.Kinds.ps the.classify_l3_udp_source.Kinds.r the.classify_l3_udp_source.Reads.Learnt
 classify-l3-udp-source-determined κs a x y u v p q = (reading-injective x y (p ∙ sym q), refl)

@@ -1,6 +1,5 @@
 -- What the code's types stand for: the number of each case, and the values of the definitions. Assumes nothing.
-use Prim.Native.Nat.{ℕ, _+_, _≤_}
-use mathlib.Core.Path.{_≡_}
+use Rattle.octets.specs.Words.{ℕ, _+_, _≤_, _≡_}
 use Rattle.packet.specs.Reading.{protected, unrelated, indeterminate, Answer, Outcome, settled, onward}
 use Rattle.packet.specs.declared.PacketEndpointDisposition.{PacketEndpointDisposition}
 use Rattle.packet.specs.declared.PacketEndpointDisposition.the-variants.{Protected, Unrelated, Indeterminate}

@@ -1,9 +1,5 @@
 -- Document 01, 'Places named for demand 3': the places of a packet, read against an endpoint, that may matter. Assumes nothing.
-use Prim.Native.Nat.{ℕ, zero, suc, _+_}
-use mathlib.Core.Bool.{cond, _||_}
-use mathlib.Core.List.{List, [], _∷_, _++_, map}
-use lib.ListN.{length, getD}
-use lib.Dec.{ltb, eqb}
+use Rattle.octets.specs.Words.{ℕ, zero, suc, _+_, cond, _||_, List, [], _∷_, _++_, map, length, getD, eqb, ltb}
 use Rattle.endpoint.specs.declared.ProtectedEndpoint.{ProtectedEndpoint}
 use Rattle.packet.specs.Rfc791 as ip4
 use Rattle.packet.specs.Rfc8200 as ip6

@@ -1,9 +1,5 @@
 -- Document 01, 'Reading a packet': its decisions, in its order. Assumes nothing.
-use Prim.Native.Nat.{ℕ, zero, suc, _+_}
-use mathlib.Core.Bool.{Bool, false, cond, not, _||_}
-use mathlib.Core.List.{List, [], _∷_}
-use lib.ListN.{length}
-use lib.Dec.{ltb, eqb}
+use Rattle.octets.specs.Words.{ℕ, zero, suc, _+_, Bool, false, cond, not, _||_, List, [], _∷_, length, eqb, ltb}
 use Rattle.octets.specs.Octets.{octetsAt, sameOctets}
 use Rattle.endpoint.specs.declared.ProtectedEndpoint.{ProtectedEndpoint}
 use Rattle.packet.specs.Rfc791 as ip4

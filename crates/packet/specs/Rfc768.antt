@@ -1,6 +1,5 @@
 -- RFC 768: the UDP header, 8 bytes, has the source port first; UDP is protocol 17. Assumes nothing.
-use Prim.Native.Nat.{ℕ}
-use mathlib.Core.List.{List}
+use Rattle.octets.specs.Words.{ℕ, List}
 use Rattle.octets.specs.Octets.{octetsAt, be}
 
 abbrev pub udpLength : ℕ

@@ -1,8 +1,5 @@
 -- RFC 791, section 3.1: the fields of the IPv4 header that matter here, each by its place in the figure. Assumes nothing.
-use Prim.Native.Nat.{ℕ, _*_, _/_, _%_}
-use mathlib.Core.Bool.{Bool}
-use mathlib.Core.List.{List}
-use lib.Dec.{eqb}
+use Rattle.octets.specs.Words.{ℕ, _*_, _/_, _%_, Bool, List, eqb}
 use lib.Bits.{bitAnd}
 use Rattle.octets.specs.Octets.{octetsAt, le, be}
 

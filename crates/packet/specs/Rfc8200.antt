@@ -1,6 +1,5 @@
 -- RFC 8200: the fixed IPv6 header (section 3) and the extension headers (section 4), by their figures. Assumes nothing.
-use Prim.Native.Nat.{ℕ, _+_, _*_}
-use mathlib.Core.List.{List}
+use Rattle.octets.specs.Words.{ℕ, _+_, _*_, List}
 use Rattle.octets.specs.Octets.{octetsAt, le, be}
 
 abbrev pub payloadLength : List ℕ → ℕ

@@ -3,10 +3,7 @@
 // A packet begins at its network header. Each test stands in the order of document 01, and each field is read where that order
 // comes to it, after the test of the packet's length: the readers' own tests then cost nothing.
 use endpoint::ProtectedEndpoint;
-ghost use mathlib.Core.Path.{_≡_};
-ghost use Prim.Native.Nat.{_+_, _*_, _≤_};
-ghost use mathlib.Core.Bool.{cond, _||_};
-ghost use lib.Dec.{ltb, eqb};
+ghost use Rattle.octets.specs.Words.{_+_, _*_, _≤_, _≡_, cond, _||_, eqb, ltb};
 ghost use Rattle.octets.specs.Octets.{octetsAt, sameOctets};
 ghost use Rattle.packet.specs.Rfc791.{source as source4};
 ghost use Rattle.packet.specs.Rfc8200.{source as source6, lengthByte};

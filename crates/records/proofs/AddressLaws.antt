@@ -1,10 +1,9 @@
 -- The sixteen octets of an address and its two numbers of eight octets: each gives the other back. By the laws of octets over the
 -- width. Assumes nothing.
-use mathlib.Core.Path.{_≡_, refl, sym, ap, _∙_}
-use mathlib.Core.List.{List, [], _∷_, _++_, append-nil}
-use Prim.Native.Nat.{ℕ, _+_, _<_, _^_}
-use native.Mathlib.Omega.{arith}
-use lib.ListN.{length, drop, replicate, drop-of-length-le}
+use Rattle.octets.specs.Words.{ℕ, _+_, _^_, _<_, _≡_, List, [], _∷_, _++_, length, drop, replicate}
+use Rattle.octets.proofs.Tools.{refl, sym, ap, _∙_, arith}
+use mathlib.Core.List.{append-nil}
+use lib.ListN.{drop-of-length-le}
 use Rattle.octets.specs.Octets.{Bytes, octetsAt, put, le, leBytes}
 use Rattle.octets.proofs.OctetsLaws.{length-octets, length-leBytes, octets-append, octets-drop, octets-at, leBytes-le, le-below, Bytes-octets}
 

@@ -1,12 +1,8 @@
 -- The configuration obeys the laws of every codec: the rule fixes mark, version and zeros, and the address comes back from its two
 -- numbers. Assumes nothing.
-use mathlib.Core.Path.{_≡_, ap}
-use mathlib.Core.Bool.{true, not}
-use mathlib.Core.List.{List, [], _∷_}
-use Prim.Native.Nat.{ℕ, _<_, _^_}
-use lib.ListN.{length}
-use lib.Dec.{eqb, lit<}
-use borrow.Author.Tests.{eqb-true}
+use Rattle.octets.specs.Words.{ℕ, _^_, _<_, _≡_, true, not, List, [], _∷_, length, eqb}
+use Rattle.octets.proofs.Tools.{ap, eqb-true}
+use lib.Dec.{lit<}
 use Rattle.octets.specs.Octets.{Bytes, octetsAt, le}
 use Rattle.octets.proofs.CodecLaws.{Lawful, and-left, and-right}
 use Rattle.endpoint.specs.declared.ProtectedEndpoint.{ProtectedEndpoint}

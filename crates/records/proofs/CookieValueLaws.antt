@@ -1,10 +1,7 @@
 -- A cookie value obeys the laws of every codec, by what is shown of states and controls. Assumes nothing.
-use mathlib.Core.Path.{_≡_, ap}
-use mathlib.Core.Bool.{true, not}
-use mathlib.Core.List.{[], _∷_}
-use Prim.Native.Nat.{ℕ, _<_, _^_}
-use lib.Dec.{eqb, lit<}
-use borrow.Author.Tests.{eqb-true}
+use Rattle.octets.specs.Words.{ℕ, _^_, _<_, _≡_, true, not, [], _∷_, eqb}
+use Rattle.octets.proofs.Tools.{ap, eqb-true}
+use lib.Dec.{lit<}
 use Rattle.octets.specs.Layout.{Fit}
 use Rattle.octets.proofs.CodecLaws.{Lawful, and-left, and-right}
 use Rattle.records.specs.declared.entry.FenceEntryState.{FenceEntryState}

@@ -1,13 +1,9 @@
 -- The current record obeys the laws of every codec. What it has to show is that its control word comes back: an accepted control is
 -- the one that the record is written with, by cases on the three controls; and a record's own control tells whether it is retired.
 -- Assumes nothing.
-use mathlib.Core.Path.{_≡_, refl, sym, ap}
-use mathlib.Core.Bool.{Bool, true, false, not, cond, _&&_, true≢false}
-use mathlib.Core.List.{[], _∷_}
-use Prim.Native.Nat.{ℕ, _%_, _<_, _^_}
-use native.Mathlib.Omega.{arith}
-use lib.Dec.{eqb, lit<}
-use borrow.Author.Tests.{eqb-true, eqb-false, ne-eqb, not-true}
+use Rattle.octets.specs.Words.{ℕ, _%_, _^_, _<_, _≡_, Bool, true, false, cond, not, _&&_, [], _∷_, eqb}
+use Rattle.octets.proofs.Tools.{refl, sym, ap, true≢false, arith, ne-eqb, eqb-true, eqb-false, not-true}
+use lib.Dec.{lit<}
 use Rattle.octets.proofs.CodecLaws.{Lawful, and-left, and-right}
 use Rattle.records.specs.declared.current.CurrentFenceToken.{CurrentFenceToken}
 use Rattle.records.specs.Current.{current, currentRule, currentControl, currentCodec}

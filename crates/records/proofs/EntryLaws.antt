@@ -1,11 +1,8 @@
 -- The states of an entry have one control word each, and an entry obeys the laws of every codec: an accepted control is its state's.
 -- Assumes nothing.
-use mathlib.Core.Path.{_≡_, refl, sym, ap, _∙_}
-use mathlib.Core.Bool.{Bool, true, false, not, cond, _&&_, true≢false}
-use mathlib.Core.List.{[], _∷_}
-use Prim.Native.Nat.{ℕ, _%_, _<_, _^_}
-use lib.Dec.{eqb, lit<}
-use borrow.Author.Tests.{eqb-true}
+use Rattle.octets.specs.Words.{ℕ, _%_, _^_, _<_, _≡_, Bool, true, false, cond, not, _&&_, [], _∷_, eqb}
+use Rattle.octets.proofs.Tools.{refl, sym, ap, _∙_, true≢false, eqb-true}
+use lib.Dec.{lit<}
 use Rattle.octets.proofs.CodecLaws.{Lawful, and-left, and-right}
 use Rattle.records.specs.declared.entry.FenceEntryState.{FenceEntryState}
 use Rattle.records.specs.declared.entry.FenceEntryState.the-variants.{InitialClosed, Active, TerminalClosed, Reclaiming}

@@ -1,14 +1,11 @@
 -- An inspection obeys the laws of every codec because its parts do: each part's numbers are back from the part. What is its own is
 -- the inner entry, by its two cases, and the forty zeros. Assumes nothing.
-use mathlib.Core.Path.{_≡_, refl, sym, ap, _∙_}
-use mathlib.Core.Bool.{Bool, true, false, cond, _&&_, true≢false}
-use mathlib.Core.List.{List, [], _∷_, _++_}
-use Prim.Native.Nat.{ℕ}
-use lib.ListN.{length, getD, drop, replicate}
-use lib.Dec.{eqb, lit<}
-use borrow.Author.Tests.{eqb-true}
+use Rattle.octets.specs.Words.{ℕ, _≡_, Bool, true, false, cond, _&&_, List, [], _∷_, _++_, length, getD, drop, replicate, eqb}
+use Rattle.octets.proofs.Tools.{refl, sym, ap, _∙_, true≢false, eqb-true}
+use lib.Dec.{lit<}
 use Rattle.octets.specs.Octets.{allZero}
-use Rattle.octets.specs.Layout.{puts, Fit}
+use Rattle.octets.specs.Layout.{Fit}
+use Rattle.octets.specs.Stores.{puts}
 use Rattle.octets.specs.Codec.{sound}
 use Rattle.octets.proofs.LayoutLaws.{fit-append}
 use Rattle.octets.proofs.CodecLaws.{Lawful, and-left, and-right}

@@ -1,6 +1,6 @@
 -- The key obeys the laws of every codec: its numbers are its fields, so both ways are the identity. Assumes nothing.
-use mathlib.Core.Path.{refl}
-use Prim.Native.Nat.{_<_, _^_}
+use Rattle.octets.specs.Words.{_^_, _<_}
+use Rattle.octets.proofs.Tools.{refl}
 use Rattle.octets.proofs.CodecLaws.{Lawful}
 use Rattle.records.specs.declared.key.FenceCookieKey.{FenceCookieKey}
 use Rattle.records.specs.Key.{keyCodec}

@@ -1,10 +1,6 @@
 -- Document 01, 'Record layouts': "Config, 40: "OEF1"; version 5 (u16); family 4 or 6; 0; port big-endian; two zeros; capacity u32,
 -- exactly 4,096; root cgroup u64, not 0; address at 24. For IPv4, 28 to 39 are zero. The endpoint obeys its rules." Assumes nothing.
-use Prim.Native.Nat.{ℕ}
-use mathlib.Core.Bool.{Bool, not, _&&_}
-use mathlib.Core.List.{List, [], _∷_, _++_}
-use lib.ListN.{getD}
-use lib.Dec.{eqb}
+use Rattle.octets.specs.Words.{ℕ, Bool, not, _&&_, List, [], _∷_, _++_, getD, eqb}
 use Rattle.octets.specs.Octets.{octetsAt, le, leBytes}
 use Rattle.octets.specs.Layout.{little, big}
 use Rattle.octets.specs.Codec.{Codec}

@@ -1,10 +1,6 @@
 -- Document 01, 'Record layouts': "Current, 24: all zero is the initial record. Else bytes 0-3 zero, control u32, token u64, cookie
 -- u64." Assumes nothing.
-use Prim.Native.Nat.{ℕ, _%_}
-use mathlib.Core.Bool.{Bool, false, not, cond, _&&_}
-use mathlib.Core.List.{[], _∷_}
-use lib.ListN.{getD}
-use lib.Dec.{eqb}
+use Rattle.octets.specs.Words.{ℕ, _%_, Bool, false, cond, not, _&&_, [], _∷_, getD, eqb}
 use Rattle.octets.specs.Layout.{little}
 use Rattle.octets.specs.Codec.{Codec}
 use Rattle.records.specs.declared.current.CurrentFenceToken.{CurrentFenceToken}

@@ -1,9 +1,5 @@
 -- Document 01, 'Record layouts': "Entry, 32: four zeros, control, token, deadline, epoch." Assumes nothing.
-use Prim.Native.Nat.{ℕ, _%_}
-use mathlib.Core.Bool.{Bool, true, false, not, cond, _&&_}
-use mathlib.Core.List.{[], _∷_}
-use lib.ListN.{getD}
-use lib.Dec.{eqb}
+use Rattle.octets.specs.Words.{ℕ, _%_, Bool, true, false, cond, not, _&&_, [], _∷_, getD, eqb}
 use Rattle.octets.specs.Layout.{little}
 use Rattle.octets.specs.Codec.{Codec}
 use Rattle.records.specs.declared.entry.FenceEntryState.{FenceEntryState}

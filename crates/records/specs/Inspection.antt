@@ -1,10 +1,6 @@
 -- Document 01, 'Record layouts': "Inspection, 128: "OEI1"; version 5; flag 0 or 1; 0; Current at 8; Mutation at 32; Cookie value at
 -- 48, all zero with flag 0; 88 to 127 zero." Assumes nothing.
-use Prim.Native.Nat.{ℕ}
-use mathlib.Core.Bool.{Bool, true, false, cond, _&&_}
-use mathlib.Core.List.{List, [], _∷_, _++_}
-use lib.ListN.{getD, take, drop}
-use lib.Dec.{eqb}
+use Rattle.octets.specs.Words.{ℕ, Bool, true, false, cond, _&&_, List, [], _∷_, _++_, getD, take, drop, eqb}
 use Rattle.octets.specs.Octets.{allZero}
 use Rattle.octets.specs.Layout.{Field, little, big}
 use Rattle.octets.specs.Codec.{Codec}

@@ -1,9 +1,5 @@
 -- Document 01, 'Record layouts': "Key, 16: cookie, token, neither 0. No parity is asked." Assumes nothing.
-use Prim.Native.Nat.{ℕ}
-use mathlib.Core.Bool.{Bool, not, _&&_}
-use mathlib.Core.List.{[], _∷_}
-use lib.ListN.{getD}
-use lib.Dec.{eqb}
+use Rattle.octets.specs.Words.{ℕ, Bool, not, _&&_, [], _∷_, getD, eqb}
 use Rattle.octets.specs.Layout.{little}
 use Rattle.octets.specs.Codec.{Codec}
 use Rattle.records.specs.declared.key.FenceCookieKey.{FenceCookieKey}

@@ -1,9 +1,5 @@
 -- Document 01, 'Record layouts': "Mutation, 16: generation, claim." Assumes nothing.
-use Prim.Native.Nat.{ℕ, _+_}
-use mathlib.Core.Bool.{Bool, _&&_, _||_}
-use mathlib.Core.List.{[], _∷_}
-use lib.ListN.{getD}
-use lib.Dec.{eqb, ltb}
+use Rattle.octets.specs.Words.{ℕ, _+_, Bool, _&&_, _||_, [], _∷_, getD, eqb, ltb}
 use Rattle.octets.specs.Layout.{little}
 use Rattle.octets.specs.Codec.{Codec}
 use Rattle.records.specs.declared.mutation.FenceMutationAuthority.{FenceMutationAuthority}

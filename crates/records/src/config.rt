@@ -1,10 +1,9 @@
 // The configuration, 40 bytes: the protected endpoint, the root cgroup of the attachment, and the cookie map's capacity.
 use endpoint::ProtectedEndpoint;
 use units::RootCgroupId;
-ghost use mathlib.Core.Path.{_≡_};
-ghost use mathlib.Core.List.{[], _∷_};
+ghost use Rattle.octets.specs.Words.{_≡_, [], _∷_};
 ghost use Rattle.octets.specs.Octets.{octetsAt, le};
-ghost use Rattle.octets.specs.Layout.{puts};
+ghost use Rattle.octets.specs.Stores.{puts};
 ghost use Rattle.octets.specs.Codec.{Built, Decoded, Encoded, sound};
 ghost use Rattle.records.specs.Config.{versionRule, frameRule, endpointOf, config, frameFields, configCodec};
 

@@ -6,8 +6,7 @@ use units::BootNs;
 use units::ControlEpoch;
 use units::DurableFenceToken;
 use units::SocketCookie;
-ghost use mathlib.Core.Path.{_≡_};
-ghost use mathlib.Core.List.{[], _∷_};
+ghost use Rattle.octets.specs.Words.{_≡_, [], _∷_};
 ghost use Rattle.octets.specs.Codec.{asking, Built, Decoded, Encoded, sound};
 ghost use Rattle.records.specs.CookieValue.{cookieValueRule, cookieValue, cookieValueCodec, keyOf, entryOf, agreeing, pairFields};
 

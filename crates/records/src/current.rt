@@ -1,10 +1,7 @@
 // The current record, 24 bytes: the durable token in force, and the socket cookie registered under it.
 use units::DurableFenceToken;
 use units::SocketCookie;
-ghost use mathlib.Core.Path.{_≡_};
-ghost use mathlib.Core.Bool.{not};
-ghost use mathlib.Core.List.{[], _∷_};
-ghost use lib.Dec.{eqb};
+ghost use Rattle.octets.specs.Words.{_≡_, not, [], _∷_, eqb};
 ghost use Rattle.octets.specs.Codec.{asking, Built, Decoded, Encoded, sound};
 ghost use Rattle.records.specs.Current.{current, currentRule, currentControl, currentCodec, lifecycleOpen, retirementClosed};
 

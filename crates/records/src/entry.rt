@@ -2,8 +2,7 @@
 use units::BootNs;
 use units::ControlEpoch;
 use units::DurableFenceToken;
-ghost use mathlib.Core.Path.{_≡_};
-ghost use mathlib.Core.List.{[], _∷_};
+ghost use Rattle.octets.specs.Words.{_≡_, [], _∷_};
 ghost use Rattle.octets.specs.Codec.{Built, Decoded, Encoded, sound};
 ghost use Rattle.records.specs.Entry.{controlOf, stateFrom, deadlineRule, stateRule, entryRule, entry, entryCodec, closed, terminal, reclaiming};
 

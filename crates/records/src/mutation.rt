@@ -1,6 +1,5 @@
 // The mutation authority, 16 bytes: the last completed generation, and the claim in flight.
-ghost use mathlib.Core.Path.{_≡_};
-ghost use mathlib.Core.List.{[], _∷_};
+ghost use Rattle.octets.specs.Words.{_≡_, [], _∷_};
 ghost use Rattle.octets.specs.Codec.{Built, Decoded, Encoded, sound};
 ghost use Rattle.records.specs.Mutation.{mutation, mutationRule, mutationCodec};
 

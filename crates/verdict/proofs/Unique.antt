@@ -1,24 +1,14 @@
 -- The answer of each public function is its contract's alone. A verdict is told by its slot: no two verdicts have one, since
 -- `verdictOf` gives each back from its own. Assumes nothing.
-use mathlib.Core.Bool.{cond}
-use mathlib.Core.Path.{_≡_, refl, sym, ap, _∙_}
-use lib.Dec.{eqb}
+use Rattle.octets.specs.Words.{_≡_, cond, eqb}
+use Rattle.octets.proofs.Tools.{refl, sym, ap, _∙_}
 use Rattle.octets.specs.Determined.{Determined}
 use Rattle.verdict.specs.Verdict.{slotOf}
 use Rattle.verdict.specs.declared.FenceVerdict.{FenceVerdict}
 use Rattle.verdict.specs.declared.FenceVerdict.the-variants.{PassUnrelated, Allow, DropCookieZero, DropMissing, DropClosed, DropExpired, DropStaleToken, DropMalformed}
 use Rattle.verdict.specs.declared.CounterSlot.{CounterSlot}
 use Rattle.verdict.specs.declared.CounterSlot.the-variants.{Uncounted, Slot}
-use Rattle.verdict.proofs.FenceVerdict.counter_slot.Reads as counter-slot
-use Rattle.verdict.proofs.FenceVerdict.counter_slot.Kinds as counter-slot-kinds
-use Rattle.verdict.proofs.FenceVerdict.must_drop.Reads as must-drop
-use Rattle.verdict.proofs.FenceVerdict.must_drop.Kinds as must-drop-kinds
-use Rattle.verdict.proofs.PacketFenceContext.new.Reads as new-context
-use Rattle.verdict.proofs.PacketFenceContext.new.Kinds as new-context-kinds
-use Rattle.verdict.proofs.FenceAuthoritySnapshot.new.Reads as new-snapshot
-use Rattle.verdict.proofs.FenceAuthoritySnapshot.new.Kinds as new-snapshot-kinds
-use Rattle.verdict.proofs.decide_egress.Reads as decide-egress
-use Rattle.verdict.proofs.decide_egress.Kinds as decide-egress-kinds
+use Rattle.verdict.proofs as the
 
 -- the verdict that is counted in a slot
 verdictOf : CounterSlot → FenceVerdict
@@ -46,17 +36,17 @@ back DropMalformed = refl
 pub slot-injective : (v w : FenceVerdict) → slotOf v ≡ slotOf w → v ≡ w
 slot-injective v w h = sym (back v) ∙ ap verdictOf h ∙ back w
 
-pub counter-slot-determined : Determined counter-slot-kinds.ps counter-slot-kinds.r counter-slot.Learnt
+pub counter-slot-determined : Determined the.FenceVerdict.counter_slot.Kinds.ps the.FenceVerdict.counter_slot.Kinds.r the.FenceVerdict.counter_slot.Reads.Learnt
 counter-slot-determined κs a x y u v p q = (p ∙ sym q, refl)
 
-pub must-drop-determined : Determined must-drop-kinds.ps must-drop-kinds.r must-drop.Learnt
+pub must-drop-determined : Determined the.FenceVerdict.must_drop.Kinds.ps the.FenceVerdict.must_drop.Kinds.r the.FenceVerdict.must_drop.Reads.Learnt
 must-drop-determined κs a x y u v p q = (p ∙ sym q, refl)
 
-pub new-context-determined : Determined new-context-kinds.ps new-context-kinds.r new-context.Learnt
+pub new-context-determined : Determined the.PacketFenceContext.new.Kinds.ps the.PacketFenceContext.new.Kinds.r the.PacketFenceContext.new.Reads.Learnt
 new-context-determined κs a x y u v p q = (p ∙ sym q, refl)
 
-pub new-snapshot-determined : Determined new-snapshot-kinds.ps new-snapshot-kinds.r new-snapshot.Learnt
+pub new-snapshot-determined : Determined the.FenceAuthoritySnapshot.new.Kinds.ps the.FenceAuthoritySnapshot.new.Kinds.r the.FenceAuthoritySnapshot.new.Reads.Learnt
 new-snapshot-determined κs a x y u v p q = (p ∙ sym q, refl)
 
-pub decide-egress-determined : Determined decide-egress-kinds.ps decide-egress-kinds.r decide-egress.Learnt
+pub decide-egress-determined : Determined the.decide_egress.Kinds.ps the.decide_egress.Kinds.r the.decide_egress.Reads.Learnt
 decide-egress-determined κs a x y u v p q = (slot-injective x y (p ∙ sym q), refl)

@@ -1,7 +1,5 @@
 -- The egress verdict: 01's slots, and the order and tests of lib.rs's `decide_egress`. Assumes nothing.
-use Prim.Native.Nat.{ℕ}
-use mathlib.Core.Bool.{Bool, false, cond, not, _&&_, _||_}
-use lib.Dec.{leb, eqb}
+use Rattle.octets.specs.Words.{ℕ, Bool, false, cond, not, _&&_, _||_, eqb, leb}
 use Rattle.packet.specs.Answers.{dispositionNumber}
 use Rattle.records.specs.Entry.{closed}
 use Rattle.records.specs.declared.entry.FenceEntry.{FenceEntry}

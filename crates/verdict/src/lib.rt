@@ -5,8 +5,7 @@ use records::entry::FenceEntryState;
 use units::BootNs;
 use units::DurableFenceToken;
 use units::SocketCookie;
-ghost use mathlib.Core.Path.{_≡_};
-ghost use mathlib.Core.Bool.{Bool};
+ghost use Rattle.octets.specs.Words.{_≡_, Bool};
 ghost use Rattle.verdict.specs.Verdict.{slotOf, dropped, staleAuthority, entryVerdict, protectedVerdict, egressVerdict};
 
 // The slots of the counter map, which has eight; slot 1 is reserved.

@@ -1,7 +1,6 @@
 -- `answer_all`: at the loop's head there is room for another answer, and each turn goes on to a later place. Assumes nothing.
-use Prim.Native.Nat.{_≤_, _-_}
-use borrow.Author.Needs.{needs}
-use lib.ListN.{length}
+use Rattle.octets.specs.Words.{_-_, _≤_, length}
+use Rattle.octets.proofs.Tools.{needs}
 use Rattle.beside.proofs.answer_all.Statement.{statement}
 use Rattle.beside.proofs.answer_all.Tie as tie
 

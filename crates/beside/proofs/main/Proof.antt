@@ -1,6 +1,6 @@
 -- `main`: the count of blocks rises to its bound, so the loop ends. Assumes nothing.
-use Prim.Native.Nat.{_-_}
-use borrow.Author.Needs.{needs}
+use Rattle.octets.specs.Words.{_-_}
+use Rattle.octets.proofs.Tools.{needs}
 use Rattle.beside.proofs.main.Statement.{statement}
 use Rattle.beside.proofs.main.Tie as tie
 

@@ -1,7 +1,6 @@
 -- The check meets its contract: on each way to a `return` the tests taken and left are the definition's, in the definition's order.
 -- Assumes nothing.
-use borrow.Author.Needs.{needs}
-use borrow.Author.Tests.{le-leb, lt-leb, lt-ltb, le-ltb}
+use Rattle.octets.proofs.Tools.{needs, lt-ltb, le-ltb, le-leb, lt-leb}
 use Rattle.deadline.specs.Deadline.{refreshDecision}
 use Rattle.deadline.proofs.evaluate_refresh_deadlines.Statement.{statement}
 use Rattle.deadline.proofs.evaluate_refresh_deadlines.Tie as tie

@@ -1,6 +1,5 @@
 -- `is_ipv4_mapped`: the three tests are the definition's, in its order. Assumes nothing.
-use borrow.Author.Tests.{eq-eqb, ne-eqb, not-true, not-false}
-use borrow.Author.Needs.{needs}
+use Rattle.octets.proofs.Tools.{needs, eq-eqb, ne-eqb, not-true, not-false}
 use Rattle.endpoint.proofs.is_ipv4_mapped.Statement.{statement}
 use Rattle.endpoint.proofs.is_ipv4_mapped.Tie as tie
 

@@ -1,6 +1,5 @@
 -- `is_link_local`: the two tests are the definition's. Assumes nothing.
-use borrow.Author.Tests.{eq-eqb, ne-eqb}
-use borrow.Author.Needs.{needs}
+use Rattle.octets.proofs.Tools.{needs, eq-eqb, ne-eqb}
 use Rattle.endpoint.proofs.is_link_local.Statement.{statement}
 use Rattle.endpoint.proofs.is_link_local.Tie as tie
 

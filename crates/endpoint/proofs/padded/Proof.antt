@@ -1,7 +1,6 @@
 -- `padded`: four stores into zeros are the four octets and twelve zeros. Assumes nothing.
 use Rattle.octets.specs.Octets.{octetsAt}
-use mathlib.Core.Path.{refl}
-use borrow.Author.Needs.{needs}
+use Rattle.octets.proofs.Tools.{refl, needs}
 use Rattle.endpoint.proofs.padded.Statement.{statement}
 use Rattle.endpoint.proofs.padded.Tie as tie
 

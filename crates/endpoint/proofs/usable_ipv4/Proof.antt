@@ -1,7 +1,6 @@
 -- `usable_ipv4`: the two tests are the definition's, in its order. Assumes nothing.
-use borrow.Author.Tests.{lt-leb}
+use Rattle.octets.proofs.Tools.{needs, lt-leb}
 use Rattle.endpoint.specs.Endpoint.{usableIpv4}
-use borrow.Author.Needs.{needs}
 use Rattle.endpoint.proofs.usable_ipv4.Statement.{statement}
 use Rattle.endpoint.proofs.usable_ipv4.Tie as tie
 

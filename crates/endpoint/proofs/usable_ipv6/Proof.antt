@@ -1,7 +1,6 @@
 -- `usable_ipv6`: the four tests are the definition's, in its order. Assumes nothing.
-use borrow.Author.Tests.{eq-eqb, ne-eqb}
+use Rattle.octets.proofs.Tools.{needs, eq-eqb, ne-eqb}
 use Rattle.endpoint.specs.Endpoint.{usableIpv6}
-use borrow.Author.Needs.{needs}
 use Rattle.endpoint.proofs.usable_ipv6.Statement.{statement}
 use Rattle.endpoint.proofs.usable_ipv6.Tie as tie
 

@@ -1,5 +1,5 @@
 -- `threadwicket_classify` puts the two numbers of the classifier's reading into one. Assumes nothing.
-use borrow.Author.Needs.{needs}
+use Rattle.octets.proofs.Tools.{needs}
 use Rattle.export.proofs.threadwicket_classify.Statement.{statement}
 use Rattle.export.proofs.threadwicket_classify.Tie as tie
 

@@ -1,5 +1,5 @@
 -- `threadwicket_gate` puts the slot and the count of the gate's answer into one number. Assumes nothing.
-use borrow.Author.Needs.{needs}
+use Rattle.octets.proofs.Tools.{needs}
 use Rattle.export_gate.proofs.threadwicket_gate.Statement.{statement}
 use Rattle.export_gate.proofs.threadwicket_gate.Tie as tie
 

@@ -1,20 +1,16 @@
 -- `authorize`: at each test a rule is passed over, or it answers. `past n` says that the rules before the n-th (counted from 0) are
 -- passed over on the way to a test; what the code has decoded and found is what the rules speak of. Assumes nothing.
-use Prim.Native.Nat.{ℕ}
-use mathlib.Core.Path.{_≡_, refl, sym, ap, _∙_}
-use mathlib.Core.Bool.{not, _||_, false}
-use borrow.Author.Needs.{needs}
-use borrow.Author.Tests.{eq-eqb, ne-eqb}
+use Rattle.octets.specs.Words.{ℕ, _≡_, false, not, _||_, length, drop, eqb}
+use Rattle.octets.proofs.Tools.{refl, sym, ap, _∙_, needs, eq-eqb, ne-eqb}
 use denote.Ref.{now}
-use lib.Dec.{eqb}
-use lib.ListN.{length, drop}
 use Rattle.octets.specs.Codec.{decodeValue}
 use Rattle.records.specs.Current.{currentCodec}
 use Rattle.records.specs.Entry.{closed}
 use Rattle.records.specs.CookieValue.{cookieValueCodec}
 use Rattle.verdict.specs.Verdict.{slotOf}
 use Rattle.gate.specs.Table.{firstOf}
-use Rattle.gate.specs.Gate.{Call, Rule, rules, firstRule, lookup, decodes, stale, expired, inForce, token, sought, value, soughtRecord}
+use Rattle.gate.specs.Gate.{Call, Rule, rules, firstRule, decodes, stale, expired, inForce, token, sought, value}
+use Rattle.gate.specs.Steps.{lookup, soughtRecord}
 use Rattle.gate.proofs.RuleLaws.{over, here, decoded, undecoded, missing, found-first}
 use Rattle.gate.proofs.authorize.Statement.{statement}
 use Rattle.gate.proofs.authorize.Tie as tie

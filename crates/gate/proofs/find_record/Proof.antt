@@ -1,10 +1,7 @@
 -- `find_record`: no record before `at` stands under the key, so the first that does is the first of all; where less than a record is
 -- left there is none. Assumes nothing.
-use Prim.Native.Nat.{_≤_, _+_, _-_}
-use mathlib.Core.Path.{_≡_, refl, sym, _∙_}
-use borrow.Author.Needs.{needs}
-use native.Mathlib.Omega.{arith}
-use lib.ListN.{length, drop}
+use Rattle.octets.specs.Words.{_+_, _-_, _≤_, _≡_, length, drop}
+use Rattle.octets.proofs.Tools.{refl, sym, _∙_, arith, needs}
 use Rattle.gate.specs.Table.{records, under}
 use Rattle.gate.proofs.TableLaws.{found-here, found-on, found-none}
 use Rattle.gate.proofs.find_record.Statement.{statement}

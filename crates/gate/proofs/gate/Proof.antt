@@ -1,17 +1,14 @@
 -- `gate`: rules 1 to 4 are passed over or answer, as the code's tests go; the other nine are `authorize`'s. Assumes nothing.
-use Prim.Native.Nat.{ℕ}
-use mathlib.Core.Path.{_≡_, refl, sym, ap, _∙_}
-use mathlib.Core.Bool.{false, not, _&&_}
-use borrow.Author.Needs.{needs}
+use Rattle.octets.specs.Words.{ℕ, _≡_, false, not, _&&_, drop, eqb}
+use Rattle.octets.proofs.Tools.{refl, sym, ap, _∙_, needs}
 use denote.Ref.{now}
-use lib.Dec.{eqb}
-use lib.ListN.{drop}
 use Rattle.records.specs.Config.{configCodec}
 use Rattle.packet.specs.Answers as packet
 use Rattle.packet.specs.declared.PacketEndpointDisposition.{PacketEndpointDisposition}
 use Rattle.packet.specs.declared.PacketEndpointDisposition.the-variants.{Protected, Unrelated, Indeterminate}
 use Rattle.verdict.specs.Verdict.{slotOf}
-use Rattle.gate.specs.Gate.{Call, rules, firstRule, decodes, configuration, endpoint, root, differs, reading, sourceOf, headersOf, answerOf}
+use Rattle.gate.specs.Gate.{Call, rules, firstRule, decodes, configuration, endpoint, root, differs, reading, headersOf, answerOf}
+use Rattle.gate.specs.Steps.{sourceOf}
 use Rattle.gate.proofs.RuleLaws.{over, here, decoded, undecoded, source-is, answered, headers-1, headers-2, headers-read}
 use Rattle.gate.proofs.gate.Statement.{statement}
 use Rattle.gate.proofs.gate.Tie as tie

@@ -1,5 +1,5 @@
 -- `is_admissible`: the definition's two tests, in its order. Assumes nothing.
-use borrow.Author.Tests.{eq-eqb, ne-eqb}
+use Rattle.octets.proofs.Tools.{eq-eqb, ne-eqb}
 use Rattle.gate.specs.Table.{admissible}
 use Rattle.gate.proofs.is_admissible.Statement.{statement}
 use Rattle.gate.proofs.is_admissible.Tie as tie

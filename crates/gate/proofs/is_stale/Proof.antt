@@ -1,5 +1,5 @@
 -- `is_stale`: the definition's two tests, in its order. Assumes nothing.
-use borrow.Author.Tests.{eq-eqb, ne-eqb}
+use Rattle.octets.proofs.Tools.{eq-eqb, ne-eqb}
 use Rattle.gate.proofs.is_stale.Statement.{statement}
 use Rattle.gate.proofs.is_stale.Tie as tie
 

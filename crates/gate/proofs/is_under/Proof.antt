@@ -1,6 +1,5 @@
 -- `is_under`: the cookie first, then the token, as in the definition. Assumes nothing.
-use borrow.Author.Needs.{needs}
-use borrow.Author.Tests.{eq-eqb, ne-eqb}
+use Rattle.octets.proofs.Tools.{needs, eq-eqb, ne-eqb}
 use Rattle.gate.specs.Table.{isUnder}
 use Rattle.gate.proofs.is_under.Statement.{statement}
 use Rattle.gate.proofs.is_under.Tie as tie

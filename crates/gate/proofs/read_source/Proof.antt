@@ -1,6 +1,6 @@
 -- `read_source`: by the socket's answer, unread or read. Assumes nothing.
-use borrow.Author.Needs.{needs}
-use Rattle.gate.specs.Gate.{sourceOf}
+use Rattle.octets.proofs.Tools.{needs}
+use Rattle.gate.specs.Steps.{sourceOf}
 use Rattle.gate.proofs.read_source.Statement.{statement}
 use Rattle.gate.proofs.read_source.Tie as tie
 

@@ -1,7 +1,6 @@
 -- `same_address`: four octets are compared as one number, sixteen as two. Assumes nothing.
-use borrow.Author.Needs.{needs}
-use borrow.Author.Tests.{eq-eqb, ne-eqb}
-use Rattle.packet.proofs.Laws.{same-numbers, same-halves}
+use Rattle.octets.proofs.Tools.{needs, eq-eqb, ne-eqb}
+use Rattle.octets.proofs.SameLaws.{same-numbers, same-halves}
 use Rattle.gate.specs.Gate.{sameAddress}
 use Rattle.gate.proofs.same_address.Statement.{statement}
 use Rattle.gate.proofs.same_address.Tie as tie

@@ -1,7 +1,6 @@
 -- `seek`: token 0 seeks nothing; any other is searched for. Assumes nothing.
-use borrow.Author.Needs.{needs}
-use borrow.Author.Tests.{eq-eqb, ne-eqb}
-use Rattle.gate.specs.Gate.{soughtRecord}
+use Rattle.octets.proofs.Tools.{needs, eq-eqb, ne-eqb}
+use Rattle.gate.specs.Steps.{soughtRecord}
 use Rattle.gate.proofs.seek.Statement.{statement}
 use Rattle.gate.proofs.seek.Tie as tie
 

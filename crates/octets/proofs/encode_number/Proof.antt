@@ -1,5 +1,5 @@
 -- `encode_number`: the tests are the definition's, in its order. Assumes nothing.
-use borrow.Author.Tests.{lt-leb, le-leb}
+use Rattle.octets.proofs.Tools.{le-leb, lt-leb}
 use Rattle.octets.specs.Codec.{encodeAnswer}
 use Rattle.octets.proofs.encode_number.Statement.{statement}
 use Rattle.octets.proofs.encode_number.Tie as tie

@@ -1,8 +1,6 @@
 -- `get_u16_be`: the law of two halves at 1 and 1 octets; past the end both sides are 0. Assumes nothing.
-use borrow.Author.Needs.{needs}
-use Prim.Native.Nat.{_+_}
-use native.Mathlib.Omega.{arith}
-use mathlib.Core.Path.{sym}
+use Rattle.octets.specs.Words.{_+_}
+use Rattle.octets.proofs.Tools.{sym, arith, needs}
 use Rattle.octets.proofs.OctetsLaws.{be-past, be-parts, be-one}
 use Rattle.octets.proofs.get_u16_be.Statement.{statement}
 use Rattle.octets.proofs.get_u16_be.Tie as tie

@@ -1,7 +1,5 @@
 -- `get_u32_le`: the law of two halves at 2 and 2 octets; past the end both sides are 0. Assumes nothing.
-use borrow.Author.Needs.{needs}
-use native.Mathlib.Omega.{arith}
-use mathlib.Core.Path.{sym}
+use Rattle.octets.proofs.Tools.{sym, arith, needs}
 use Rattle.octets.proofs.OctetsLaws.{le-past, le-parts}
 use Rattle.octets.proofs.get_u32_le.Statement.{statement}
 use Rattle.octets.proofs.get_u32_le.Tie as tie

@@ -1,7 +1,5 @@
 -- `get_u64_le`: the law of two halves at 4 and 4 octets; past the end both sides are 0. Assumes nothing.
-use borrow.Author.Needs.{needs}
-use native.Mathlib.Omega.{arith}
-use mathlib.Core.Path.{sym}
+use Rattle.octets.proofs.Tools.{sym, arith, needs}
 use Rattle.octets.proofs.OctetsLaws.{le-past, le-parts}
 use Rattle.octets.proofs.get_u64_le.Statement.{statement}
 use Rattle.octets.proofs.get_u64_le.Tie as tie

@@ -1,6 +1,5 @@
 -- `get_u8` answers the octet at the place, and 0 past the end, where the definition's octet is the default. Assumes nothing.
-use borrow.Author.Needs.{needs}
-use native.Mathlib.Omega.{arith}
+use Rattle.octets.proofs.Tools.{arith, needs}
 use lib.ListN.{List·getD-eq-default}
 use Rattle.octets.specs.Octets.{le, octetsAt}
 use Rattle.octets.proofs.get_u8.Statement.{statement}

@@ -1,7 +1,6 @@
 -- `put_u16_be`: the law of two halves at 1 and 1 octets; past the end neither side stores. Assumes nothing.
-use borrow.Author.Needs.{needs}
-use Prim.Native.Nat.{_/_, _%_}
-use mathlib.Core.Path.{sym}
+use Rattle.octets.specs.Words.{_/_, _%_}
+use Rattle.octets.proofs.Tools.{sym, needs}
 use Rattle.octets.proofs.OctetsLaws.{put-past, put-parts-be, beBytes-one}
 use Rattle.octets.proofs.put_u16_be.Statement.{statement}
 use Rattle.octets.proofs.put_u16_be.Tie as tie

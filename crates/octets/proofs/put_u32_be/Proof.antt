@@ -1,6 +1,5 @@
 -- `put_u32_be`: the law of two halves at 2 and 2 octets; past the end neither side stores. Assumes nothing.
-use borrow.Author.Needs.{needs}
-use mathlib.Core.Path.{sym}
+use Rattle.octets.proofs.Tools.{sym, needs}
 use Rattle.octets.proofs.OctetsLaws.{put-past, put-parts-be}
 use Rattle.octets.proofs.put_u32_be.Statement.{statement}
 use Rattle.octets.proofs.put_u32_be.Tie as tie

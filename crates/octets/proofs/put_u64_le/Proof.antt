@@ -1,6 +1,5 @@
 -- `put_u64_le`: the law of two halves at 4 and 4 octets; past the end neither side stores. Assumes nothing.
-use borrow.Author.Needs.{needs}
-use mathlib.Core.Path.{sym}
+use Rattle.octets.proofs.Tools.{sym, needs}
 use Rattle.octets.proofs.OctetsLaws.{put-past, put-parts}
 use Rattle.octets.proofs.put_u64_le.Statement.{statement}
 use Rattle.octets.proofs.put_u64_le.Tie as tie

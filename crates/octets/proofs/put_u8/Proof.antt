@@ -1,6 +1,5 @@
 -- `put_u8` stores the octet at the place; past the end the definition's store changes nothing, as the code does. Assumes nothing.
-use borrow.Author.Needs.{needs}
-use mathlib.Core.Path.{sym}
+use Rattle.octets.proofs.Tools.{sym, needs}
 use native.Mathlib.Nat.{mod-eq-of-lt}
 use lib.Seq.{set-out}
 use Rattle.octets.specs.Octets.{leBytes, put}

@@ -1,8 +1,7 @@
 -- `same`: while octets are left, those passed were equal, so what is asked of all is what is asked of the rest. Past the end of one
 -- slice the rest of the other has to be zero. Assumes nothing.
-use borrow.Author.Needs.{needs}
-use borrow.Author.Tests.{eq-eqb, ne-eqb}
-use mathlib.Core.Path.{_≡_, refl, sym, _∙_}
+use Rattle.octets.specs.Words.{_≡_}
+use Rattle.octets.proofs.Tools.{refl, sym, _∙_, needs, eq-eqb, ne-eqb}
 use Rattle.octets.specs.Octets.{octetsAt, sameOctets}
 use Rattle.octets.proofs.OctetsLaws.{same-first, same-past-left, same-past-right}
 use Rattle.octets.proofs.same.Statement.{statement}

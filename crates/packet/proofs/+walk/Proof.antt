@@ -1,10 +1,8 @@
 -- `walk` calls itself: the measure is the allowance. Where the step stops, the walk has its disposition and passes no header; where
 -- it goes on, the walk is the rest's with one header more. Assumes nothing.
-use Prim.Native.Nat.{ℕ, _<_}
-use mathlib.Core.Path.{sym, ap, _∙_}
-use native.Mathlib.Omega.{arith}
+use Rattle.octets.specs.Words.{ℕ, _<_}
+use Rattle.octets.proofs.Tools.{sym, ap, _∙_, arith, needs}
 use Rattle.packet.proofs.Laws.{walk-stops, walk-on}
-use borrow.Author.Needs.{needs}
 use borrow.Fn.Kinds.{In}
 use borrow.Fn.PlainCycle.{Measures, is, falls, and}
 use Rattle.packet.proofs.walk.Reads as walk

@@ -1,12 +1,10 @@
 -- `classify_l3_udp_source`: the packet's length, its version and the endpoint's family choose as in the definition, which asks for
 -- the family first; an endpoint of another family is `foreign`'s. Assumes nothing.
-use mathlib.Core.Path.{_∙_}
-use mathlib.Core.Bool.{false, not, _||_, or-true}
-use lib.ListN.{length}
-use borrow.Author.Tests.{eq-eqb, ne-eqb}
+use Rattle.octets.specs.Words.{false, not, _||_, length}
+use Rattle.octets.proofs.Tools.{_∙_, needs, eq-eqb, ne-eqb}
+use mathlib.Core.Bool.{or-true}
 use Rattle.packet.specs.Reading.{known, stop, classifyOf}
 use Rattle.packet.proofs.Laws.{either-way, other-way}
-use borrow.Author.Needs.{needs}
 use Rattle.packet.proofs.classify_l3_udp_source.Statement.{statement}
 use Rattle.packet.proofs.classify_l3_udp_source.Tie as tie
 

@@ -1,11 +1,8 @@
 -- `counted`: the definition's two tests, the second one in `pass`. A product of at most 8 and 257 fits. Assumes nothing.
-use Prim.Native.Nat.{_+_}
-use lib.Dec.{eqb}
-use mathlib.Core.Path.{sym, _∙_}
-use native.Mathlib.Omega.{arith}
+use Rattle.octets.specs.Words.{_+_, eqb}
+use Rattle.octets.proofs.Tools.{sym, _∙_, arith, needs}
 use Rattle.packet.specs.Reading.{countedOf}
 use Rattle.packet.proofs.Laws.{entered-room, product-bound}
-use borrow.Author.Needs.{needs}
 use Rattle.packet.proofs.counted.Statement.{statement}
 use Rattle.packet.proofs.counted.Tie as tie
 

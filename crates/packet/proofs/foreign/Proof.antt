@@ -1,7 +1,6 @@
 -- `foreign`: the two families, one after the other. Assumes nothing.
-use borrow.Author.Tests.{eq-eqb, ne-eqb}
+use Rattle.octets.proofs.Tools.{needs, eq-eqb, ne-eqb}
 use Rattle.packet.specs.Reading.{known}
-use borrow.Author.Needs.{needs}
 use Rattle.packet.proofs.foreign.Statement.{statement}
 use Rattle.packet.proofs.foreign.Tie as tie
 

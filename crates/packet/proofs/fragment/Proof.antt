@@ -1,12 +1,8 @@
 -- `fragment`: allowance and room first, then the two bytes, then `pass`, as in the definition. Assumes nothing.
-use Prim.Native.Nat.{_+_}
-use lib.Dec.{eqb}
-use mathlib.Core.Path.{sym, _∙_}
-use native.Mathlib.Omega.{arith}
-use borrow.Author.Tests.{eq-eqb, ne-eqb}
+use Rattle.octets.specs.Words.{_+_, eqb}
+use Rattle.octets.proofs.Tools.{sym, _∙_, arith, needs, eq-eqb, ne-eqb}
 use Rattle.packet.specs.Reading.{fragmentOf}
 use Rattle.packet.proofs.Laws.{entered-room}
-use borrow.Author.Needs.{needs}
 use Rattle.packet.proofs.fragment.Statement.{statement}
 use Rattle.packet.proofs.fragment.Tie as tie
 

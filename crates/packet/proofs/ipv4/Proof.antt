@@ -1,8 +1,6 @@
 -- `ipv4`: on each way to an answer the tests taken and left are the definition's, in the definition's order, on the fields that
 -- the readers give. Assumes nothing.
-use borrow.Author.Needs.{needs}
-use mathlib.Core.Path.{ap, _∙_}
-use borrow.Author.Tests.{lt-ltb, le-ltb, eq-eqb, ne-eqb}
+use Rattle.octets.proofs.Tools.{ap, _∙_, needs, eq-eqb, ne-eqb, lt-ltb, le-ltb}
 use Rattle.packet.specs.Reading.{ipv4Head, stop}
 use Rattle.packet.proofs.ipv4.Statement.{statement}
 use Rattle.packet.proofs.ipv4.Tie as tie

@@ -1,10 +1,8 @@
 -- `ipv6`: on each way to an answer the tests taken and left are the definition's, in the definition's order; past them the answer is
 -- the walk's. Assumes nothing.
-use mathlib.Core.Path.{_∙_}
-use borrow.Author.Tests.{lt-ltb, le-ltb, eq-eqb, ne-eqb}
+use Rattle.octets.proofs.Tools.{_∙_, needs, eq-eqb, ne-eqb, lt-ltb, le-ltb}
 use Rattle.packet.specs.Reading.{ipv6Head}
 use Rattle.packet.proofs.Laws.{answered}
-use borrow.Author.Needs.{needs}
 use Rattle.packet.proofs.ipv6.Statement.{statement}
 use Rattle.packet.proofs.ipv6.Tie as tie
 

@@ -1,6 +1,6 @@
 -- `same_ipv4`: octets are the same where their numbers are. Assumes nothing.
-use Rattle.packet.proofs.Laws.{same-numbers}
-use borrow.Author.Needs.{needs}
+use Rattle.octets.proofs.SameLaws.{same-numbers}
+use Rattle.octets.proofs.Tools.{needs}
 use Rattle.packet.proofs.same_ipv4.Statement.{statement}
 use Rattle.packet.proofs.same_ipv4.Tie as tie
 

@@ -1,7 +1,6 @@
 -- `same_ipv6`: sixteen octets are the same where the numbers of the first eight are and of the last eight. Assumes nothing.
-use borrow.Author.Needs.{needs}
-use borrow.Author.Tests.{eq-eqb, ne-eqb}
-use Rattle.packet.proofs.Laws.{same-halves}
+use Rattle.octets.proofs.Tools.{needs, eq-eqb, ne-eqb}
+use Rattle.octets.proofs.SameLaws.{same-halves}
 use Rattle.packet.proofs.same_ipv6.Statement.{statement}
 use Rattle.packet.proofs.same_ipv6.Tie as tie
 

@@ -1,7 +1,7 @@
 -- `sort`: each arm's values have the arm's class in the definition, which the checker computes; a value of no arm has none of the ten.
 -- Assumes nothing.
 use mathlib.Core.Logic.{⊎-elim}
-use native.Mathlib.Omega.{arith}
+use Rattle.octets.proofs.Tools.{arith}
 use Rattle.packet.specs.Reading.{sortOf}
 use Rattle.packet.proofs.Laws.{sort-as, sort-range, sort-other}
 use Rattle.packet.proofs.sort.Statement.{statement}

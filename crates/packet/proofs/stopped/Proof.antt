@@ -1,5 +1,5 @@
 -- `stopped`: the reading of a disposition and no header is the definition's. Assumes nothing.
-use mathlib.Core.Path.{refl}
+use Rattle.octets.proofs.Tools.{refl}
 use Rattle.packet.proofs.stopped.Statement.{statement}
 use Rattle.packet.proofs.stopped.Tie as tie
 

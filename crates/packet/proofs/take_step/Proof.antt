@@ -1,6 +1,6 @@
 -- `take_step`: each arm is the definition's case of the class that the sorting gives. Assumes nothing.
 use Rattle.packet.specs.Reading.{stepOf}
-use borrow.Author.Needs.{needs}
+use Rattle.octets.proofs.Tools.{needs}
 use Rattle.packet.proofs.take_step.Statement.{statement}
 use Rattle.packet.proofs.take_step.Tie as tie
 

@@ -1,7 +1,7 @@
 -- `decide_egress`: the attachment, then the packet where the socket does not match; what is left is the socket's. Assumes nothing.
 use mathlib.Core.Logic.{⊎-elim}
 use Rattle.verdict.specs.Verdict.{egressVerdict}
-use borrow.Author.Needs.{needs}
+use Rattle.octets.proofs.Tools.{needs}
 use Rattle.verdict.proofs.decide_egress.Statement.{statement}
 use Rattle.verdict.proofs.decide_egress.Tie as tie
 

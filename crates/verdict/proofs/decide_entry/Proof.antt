@@ -1,7 +1,6 @@
 -- `decide_entry`: by the state's case, and then by the deadline. Assumes nothing.
-use borrow.Author.Tests.{le-leb, lt-leb}
+use Rattle.octets.proofs.Tools.{needs, le-leb, lt-leb}
 use Rattle.verdict.specs.Verdict.{entryVerdict}
-use borrow.Author.Needs.{needs}
 use Rattle.verdict.proofs.decide_entry.Statement.{statement}
 use Rattle.verdict.proofs.decide_entry.Tie as tie
 

@@ -1,7 +1,6 @@
 -- `decide_protected`: the cookie, the entry's presence, whether it is current, and then the entry. Assumes nothing.
-use borrow.Author.Tests.{eq-eqb, ne-eqb}
+use Rattle.octets.proofs.Tools.{needs, eq-eqb, ne-eqb}
 use Rattle.verdict.specs.Verdict.{protectedVerdict}
-use borrow.Author.Needs.{needs}
 use Rattle.verdict.proofs.decide_protected.Statement.{statement}
 use Rattle.verdict.proofs.decide_protected.Tie as tie
 

@@ -1,5 +1,5 @@
 -- `is_stale`: the four tests are the definition's, in its order. Assumes nothing.
-use borrow.Author.Tests.{eq-eqb, ne-eqb}
+use Rattle.octets.proofs.Tools.{eq-eqb, ne-eqb}
 use Rattle.verdict.specs.Verdict.{staleAuthority}
 use Rattle.verdict.proofs.is_stale.Statement.{statement}
 use Rattle.verdict.proofs.is_stale.Tie as tie

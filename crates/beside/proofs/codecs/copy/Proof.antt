@@ -1,8 +1,6 @@
 -- `copy`: at most n bytes are put, one a turn, and the slice keeps its length. Assumes nothing.
-use Prim.Native.Nat.{_≤_, _-_}
-use mathlib.Core.Path.{_≡_}
-use lib.ListN.{length}
-use borrow.Author.Needs.{needs}
+use Rattle.octets.specs.Words.{_-_, _≤_, _≡_, length}
+use Rattle.octets.proofs.Tools.{needs}
 use Rattle.beside.proofs.codecs.copy.Statement.{statement}
 use Rattle.beside.proofs.codecs.copy.Tie as tie
 

@@ -1,8 +1,6 @@
 -- `put_bytes`: a byte a turn, and the slice keeps its length. Assumes nothing.
-use Prim.Native.Nat.{_≤_, _-_}
-use mathlib.Core.Path.{_≡_}
-use lib.ListN.{length}
-use borrow.Author.Needs.{needs}
+use Rattle.octets.specs.Words.{_-_, _≤_, _≡_, length}
+use Rattle.octets.proofs.Tools.{needs}
 use Rattle.beside.proofs.gates.put_bytes.Statement.{statement}
 use Rattle.beside.proofs.gates.put_bytes.Tie as tie
 

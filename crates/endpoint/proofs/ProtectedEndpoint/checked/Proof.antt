@@ -1,6 +1,6 @@
 -- `checked`: the definition's two cases, by the answer of `is_sound`. Assumes nothing.
 use Rattle.endpoint.specs.Endpoint.{made}
-use borrow.Author.Needs.{needs}
+use Rattle.octets.proofs.Tools.{needs}
 use Rattle.endpoint.proofs.ProtectedEndpoint.checked.Statement.{statement}
 use Rattle.endpoint.proofs.ProtectedEndpoint.checked.Tie as tie
 

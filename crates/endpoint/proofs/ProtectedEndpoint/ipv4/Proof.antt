@@ -1,5 +1,5 @@
 -- `ipv4` hands the padded address to `checked`. Assumes nothing.
-use borrow.Author.Needs.{needs}
+use Rattle.octets.proofs.Tools.{needs}
 use Rattle.endpoint.proofs.ProtectedEndpoint.ipv4.Statement.{statement}
 use Rattle.endpoint.proofs.ProtectedEndpoint.ipv4.Tie as tie
 

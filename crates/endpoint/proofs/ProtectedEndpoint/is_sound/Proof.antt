@@ -1,7 +1,6 @@
 -- `is_sound`: the port first, then the rule of the family, as in the definition. Assumes nothing.
-use borrow.Author.Tests.{eq-eqb, ne-eqb}
+use Rattle.octets.proofs.Tools.{needs, eq-eqb, ne-eqb}
 use Rattle.endpoint.specs.Endpoint.{soundEndpoint}
-use borrow.Author.Needs.{needs}
 use Rattle.endpoint.proofs.ProtectedEndpoint.is_sound.Statement.{statement}
 use Rattle.endpoint.proofs.ProtectedEndpoint.is_sound.Tie as tie
 

@@ -1,7 +1,6 @@
 -- `matches_ipv4`: family, port and address, as in the definition. Assumes nothing.
-use borrow.Author.Tests.{eq-eqb, ne-eqb}
+use Rattle.octets.proofs.Tools.{needs, eq-eqb, ne-eqb}
 use Rattle.endpoint.specs.Endpoint.{matchesIpv4}
-use borrow.Author.Needs.{needs}
 use Rattle.endpoint.proofs.ProtectedEndpoint.matches_ipv4.Statement.{statement}
 use Rattle.endpoint.proofs.ProtectedEndpoint.matches_ipv4.Tie as tie
 

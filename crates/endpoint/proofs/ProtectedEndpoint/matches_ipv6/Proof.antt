@@ -1,7 +1,6 @@
 -- `matches_ipv6`: family, port and address, as in the definition. Assumes nothing.
-use borrow.Author.Tests.{eq-eqb, ne-eqb}
+use Rattle.octets.proofs.Tools.{needs, eq-eqb, ne-eqb}
 use Rattle.endpoint.specs.Endpoint.{matchesIpv6}
-use borrow.Author.Needs.{needs}
 use Rattle.endpoint.proofs.ProtectedEndpoint.matches_ipv6.Statement.{statement}
 use Rattle.endpoint.proofs.ProtectedEndpoint.matches_ipv6.Tie as tie
 

@@ -1,6 +1,5 @@
 -- `matches`: family, port and address, as in the definition. Assumes nothing.
-use borrow.Author.Needs.{needs}
-use borrow.Author.Tests.{eq-eqb, ne-eqb}
+use Rattle.octets.proofs.Tools.{needs, eq-eqb, ne-eqb}
 use Rattle.gate.specs.Gate.{matches}
 use Rattle.gate.proofs.Socket.matches.Statement.{statement}
 use Rattle.gate.proofs.Socket.matches.Tie as tie

@@ -1,9 +1,7 @@
 -- `endpoint_of`: two stores into sixteen zeros are the octets of the two numbers. Assumes nothing.
-use mathlib.Core.Path.{ap, _∙_}
-use Rattle.octets.proofs.Calls.{free}
+use Rattle.octets.proofs.Tools.{ap, _∙_, needs, free}
 use Rattle.records.specs.Config.{endpointOf}
 use Rattle.records.proofs.AddressLaws.{stored}
-use borrow.Author.Needs.{needs}
 use Rattle.records.proofs.config.endpoint_of.Statement.{statement}
 use Rattle.records.proofs.config.endpoint_of.Tie as tie
 

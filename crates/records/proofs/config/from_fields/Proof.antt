@@ -1,7 +1,5 @@
 -- `from_fields`: the rule decides, and accepted numbers give their record. Assumes nothing.
-use mathlib.Core.Path.{refl, sym, _∙_}
-use borrow.Author.Tests.{not-true, not-false}
-use Rattle.octets.proofs.Calls.{free}
+use Rattle.octets.proofs.Tools.{refl, sym, _∙_, not-true, not-false, free}
 use Rattle.octets.proofs.CodecLaws.{built-done, built-refused}
 use Rattle.records.specs.Config.{configCodec}
 use Rattle.records.proofs.config.from_fields.Statement.{statement}

@@ -1,5 +1,5 @@
 -- `version_rule`: the tests are the definition's, in its order. Assumes nothing.
-use borrow.Author.Tests.{eq-eqb, ne-eqb}
+use Rattle.octets.proofs.Tools.{eq-eqb, ne-eqb}
 use Rattle.records.proofs.config.version_rule.Statement.{statement}
 use Rattle.records.proofs.config.version_rule.Tie as tie
 

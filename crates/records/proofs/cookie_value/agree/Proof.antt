@@ -1,5 +1,5 @@
 -- `agree`: the tests are the definition's, in its order. Assumes nothing.
-use Rattle.octets.proofs.Calls.{free}
+use Rattle.octets.proofs.Tools.{free}
 use Rattle.records.specs.CookieValue.{agreeing}
 use Rattle.records.proofs.cookie_value.agree.Statement.{statement}
 use Rattle.records.proofs.cookie_value.agree.Tie as tie

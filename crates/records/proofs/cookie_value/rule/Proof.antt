@@ -1,6 +1,5 @@
 -- `rule`: the zeros and the cookie, and then the rule on the state. Assumes nothing.
-use borrow.Author.Tests.{eq-eqb, ne-eqb}
-use Rattle.octets.proofs.Calls.{free}
+use Rattle.octets.proofs.Tools.{eq-eqb, ne-eqb, free}
 use Rattle.records.specs.CookieValue.{cookieValueRule}
 use Rattle.records.proofs.cookie_value.rule.Statement.{statement}
 use Rattle.records.proofs.cookie_value.rule.Tie as tie

@@ -1,5 +1,5 @@
 -- `rule`: the tests are the definition's, in its order. Assumes nothing.
-use borrow.Author.Tests.{eq-eqb, ne-eqb}
+use Rattle.octets.proofs.Tools.{eq-eqb, ne-eqb}
 use Rattle.records.specs.Current.{currentRule}
 use Rattle.records.proofs.current.rule.Statement.{statement}
 use Rattle.records.proofs.current.rule.Tie as tie

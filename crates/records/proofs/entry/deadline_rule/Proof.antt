@@ -1,5 +1,5 @@
 -- `deadline_rule`: one arm for each control of the definition. Assumes nothing.
-use borrow.Author.Tests.{eq-eqb, ne-eqb}
+use Rattle.octets.proofs.Tools.{eq-eqb, ne-eqb}
 use Rattle.records.proofs.entry.deadline_rule.Statement.{statement}
 use Rattle.records.proofs.entry.deadline_rule.Tie as tie
 

@@ -1,6 +1,5 @@
 -- `state_rule`: the tests are the definition's, in its order. Assumes nothing.
-use borrow.Author.Tests.{eq-eqb, ne-eqb}
-use Rattle.octets.proofs.Calls.{free}
+use Rattle.octets.proofs.Tools.{eq-eqb, ne-eqb, free}
 use Rattle.records.specs.Entry.{stateRule}
 use Rattle.records.proofs.entry.state_rule.Statement.{statement}
 use Rattle.records.proofs.entry.state_rule.Tie as tie

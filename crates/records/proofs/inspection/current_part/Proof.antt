@@ -1,5 +1,5 @@
 -- `current_part`: the numbers read are those of the layout at byte 8. Assumes nothing.
-use Rattle.octets.proofs.Calls.{free}
+use Rattle.octets.proofs.Tools.{free}
 use Rattle.octets.proofs.CodecLaws.{built-of}
 use Rattle.records.specs.Current.{currentCodec}
 use Rattle.records.proofs.inspection.current_part.Statement.{statement}

@@ -1,5 +1,5 @@
 -- `entry_part`: the numbers read are those of the layout at byte 48, and the flag at byte 6. Assumes nothing.
-use Rattle.octets.proofs.Calls.{free}
+use Rattle.octets.proofs.Tools.{free}
 use Rattle.records.proofs.inspection.entry_part.Statement.{statement}
 use Rattle.records.proofs.inspection.entry_part.Tie as tie
 

@@ -1,5 +1,5 @@
 -- `four_zeros`: one test for each number of the list. Assumes nothing.
-use borrow.Author.Tests.{eq-eqb, ne-eqb}
+use Rattle.octets.proofs.Tools.{eq-eqb, ne-eqb}
 use Rattle.octets.specs.Octets.{allZero}
 use Rattle.records.proofs.inspection.four_zeros.Statement.{statement}
 use Rattle.records.proofs.inspection.four_zeros.Tie as tie

@@ -1,6 +1,5 @@
 -- `head_is_right`: the tests are the definition's, in its order. Assumes nothing.
-use borrow.Author.Tests.{eq-eqb, ne-eqb}
-use Rattle.octets.proofs.Calls.{free}
+use Rattle.octets.proofs.Tools.{eq-eqb, ne-eqb, free}
 use Rattle.records.specs.Inspection.{headRule}
 use Rattle.records.proofs.inspection.head_is_right.Statement.{statement}
 use Rattle.records.proofs.inspection.head_is_right.Tie as tie

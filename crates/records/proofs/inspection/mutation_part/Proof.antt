@@ -1,5 +1,5 @@
 -- `mutation_part`: the numbers read are those of the layout at byte 32. Assumes nothing.
-use Rattle.octets.proofs.Calls.{free}
+use Rattle.octets.proofs.Tools.{free}
 use Rattle.octets.proofs.CodecLaws.{built-of}
 use Rattle.records.specs.Mutation.{mutationCodec}
 use Rattle.records.proofs.inspection.mutation_part.Statement.{statement}

@@ -1,7 +1,5 @@
 -- `part_of`: the flag chooses, as in the definition. Assumes nothing.
-use mathlib.Core.Path.{sym, _∙_}
-use borrow.Author.Tests.{eq-eqb, ne-eqb}
-use Rattle.octets.proofs.Calls.{free}
+use Rattle.octets.proofs.Tools.{sym, _∙_, eq-eqb, ne-eqb, free}
 use Rattle.octets.specs.Octets.{allZero}
 use Rattle.octets.proofs.CodecLaws.{built-done, built-refused}
 use Rattle.records.specs.Inspection.{partRule, partCodec}

@@ -1,6 +1,5 @@
 -- `present`: what the cookie value's numbers give, under flag 1. Assumes nothing.
-use mathlib.Core.Path.{refl, ap}
-use Rattle.octets.proofs.Calls.{free}
+use Rattle.octets.proofs.Tools.{refl, ap, free}
 use Rattle.octets.proofs.CodecLaws.{built-done, built-refused, done-ok, done-value, refused-ok}
 use Rattle.records.specs.declared.inspection.InspectedEntry.the-variants.{Present}
 use Rattle.records.specs.CookieValue.{cookieValueCodec}

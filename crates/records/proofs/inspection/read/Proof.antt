@@ -1,7 +1,5 @@
 -- `read`: each part answers for its own bytes, in the order of the rule. Assumes nothing.
-use mathlib.Core.Path.{refl, sym, _∙_}
-use borrow.Author.Tests.{not-true, not-false}
-use Rattle.octets.proofs.Calls.{free}
+use Rattle.octets.proofs.Tools.{refl, sym, _∙_, not-true, not-false, free}
 use Rattle.octets.specs.Octets.{octetsAt, le}
 use Rattle.octets.proofs.CodecLaws.{built-done, built-refused, done-ok, done-value, refused-ok}
 use Rattle.records.specs.Current.{currentCodec}

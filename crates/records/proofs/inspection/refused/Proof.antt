@@ -1,6 +1,5 @@
 -- `refused`: the all-zero record, by its parts. Assumes nothing.
-use mathlib.Core.Path.{refl}
-use Rattle.octets.proofs.Calls.{free}
+use Rattle.octets.proofs.Tools.{refl, free}
 use Rattle.records.specs.Current.{currentRule}
 use Rattle.records.specs.Mutation.{mutationRule}
 use Rattle.records.specs.Inspection.{inspection}

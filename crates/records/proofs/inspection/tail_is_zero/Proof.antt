@@ -1,6 +1,5 @@
 -- `tail_is_zero`: one test for each number of the list. Assumes nothing.
-use borrow.Author.Tests.{eq-eqb, ne-eqb}
-use Rattle.octets.proofs.Calls.{free}
+use Rattle.octets.proofs.Tools.{eq-eqb, ne-eqb, free}
 use Rattle.octets.specs.Octets.{allZero}
 use Rattle.records.proofs.inspection.tail_is_zero.Statement.{statement}
 use Rattle.records.proofs.inspection.tail_is_zero.Tie as tie

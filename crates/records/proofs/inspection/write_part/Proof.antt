@@ -1,6 +1,5 @@
 -- `write_part`: one store for each field, in the order of the layout. Assumes nothing.
-use borrow.Author.Needs.{needs}
-use Rattle.octets.proofs.Calls.{free}
+use Rattle.octets.proofs.Tools.{needs, free}
 use Rattle.records.proofs.inspection.write_part.Statement.{statement}
 use Rattle.records.proofs.inspection.write_part.Tie as tie
 

@@ -1,6 +1,5 @@
 -- `write_tail`: one store for each field, in the order of the layout. Assumes nothing.
-use borrow.Author.Needs.{needs}
-use Rattle.octets.proofs.Calls.{free}
+use Rattle.octets.proofs.Tools.{needs, free}
 use Rattle.records.proofs.inspection.write_tail.Statement.{statement}
 use Rattle.records.proofs.inspection.write_tail.Tie as tie
 

@@ -1,5 +1,5 @@
 -- `rule`: the tests are the definition's, in its order. Assumes nothing.
-use borrow.Author.Tests.{eq-eqb, ne-eqb}
+use Rattle.octets.proofs.Tools.{eq-eqb, ne-eqb}
 use Rattle.records.specs.Key.{keyRule}
 use Rattle.records.proofs.key.rule.Statement.{statement}
 use Rattle.records.proofs.key.rule.Tie as tie

@@ -1,7 +1,6 @@
 -- `rule`: the tests are the definition's, in its order. Assumes nothing.
-use borrow.Author.Tests.{eq-eqb, ne-eqb, lt-ltb, le-ltb}
+use Rattle.octets.proofs.Tools.{needs, eq-eqb, ne-eqb, lt-ltb, le-ltb}
 use Rattle.records.specs.Mutation.{mutationRule}
-use borrow.Author.Needs.{needs}
 use Rattle.records.proofs.mutation.rule.Statement.{statement}
 use Rattle.records.proofs.mutation.rule.Tie as tie
 

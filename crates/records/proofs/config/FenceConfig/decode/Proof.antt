@@ -1,5 +1,5 @@
 -- `decode`: the length first, then the fields, whose numbers are those of the layout. Assumes nothing.
-use Rattle.octets.proofs.Calls.{free}
+use Rattle.octets.proofs.Tools.{free}
 use Rattle.octets.proofs.CodecLaws.{decode-length, decode-read}
 use Rattle.records.specs.Config.{configCodec}
 use Rattle.records.proofs.config.FenceConfig.decode.Statement.{statement}

@@ -1,7 +1,5 @@
 -- `encode`: its answers are those of every encoder; its stores are one for each field, in the order of the layout. Assumes nothing.
-use mathlib.Core.Path.{refl}
-use borrow.Author.Needs.{needs}
-use Rattle.octets.proofs.Calls.{free}
+use Rattle.octets.proofs.Tools.{refl, needs, free}
 use Rattle.octets.proofs.CodecLaws.{encode-refused, encode-written}
 use Rattle.records.specs.Config.{configCodec}
 use Rattle.records.proofs.config.FenceConfig.encode.Statement.{statement}

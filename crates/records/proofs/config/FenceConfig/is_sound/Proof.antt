@@ -1,7 +1,5 @@
 -- `is_sound`: the rule on the record's own numbers. Assumes nothing.
-use borrow.Author.Tests.{not-true, not-false}
-use borrow.Author.Needs.{needs}
-use Rattle.octets.proofs.Calls.{free}
+use Rattle.octets.proofs.Tools.{needs, not-true, not-false, free}
 use Rattle.records.proofs.config.FenceConfig.is_sound.Statement.{statement}
 use Rattle.records.proofs.config.FenceConfig.is_sound.Tie as tie
 

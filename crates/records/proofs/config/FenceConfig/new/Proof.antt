@@ -1,6 +1,5 @@
 -- `new`: the numbers handed over are those of the record. Assumes nothing.
-use borrow.Author.Needs.{needs}
-use Rattle.octets.proofs.Calls.{free}
+use Rattle.octets.proofs.Tools.{needs, free}
 use Rattle.records.proofs.config.FenceConfig.new.Statement.{statement}
 use Rattle.records.proofs.config.FenceConfig.new.Tie as tie
 

@@ -1,5 +1,5 @@
 -- `decode`: the length first, then the fields, whose numbers are those of the layout. Assumes nothing.
-use Rattle.octets.proofs.Calls.{free}
+use Rattle.octets.proofs.Tools.{free}
 use Rattle.octets.proofs.CodecLaws.{built-of, decode-length, decode-read}
 use Rattle.records.specs.CookieValue.{cookieValueCodec}
 use Rattle.records.proofs.cookie_value.FenceCookieValue.decode.Statement.{statement}

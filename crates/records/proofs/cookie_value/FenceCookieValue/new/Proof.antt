@@ -1,7 +1,5 @@
 -- `new`: what is asked of key and entry, and then the rule on the fields. Assumes nothing.
-use mathlib.Core.Path.{sym, _∙_}
-use borrow.Author.Tests.{not-true, not-false}
-use Rattle.octets.proofs.Calls.{free}
+use Rattle.octets.proofs.Tools.{sym, _∙_, not-true, not-false, free}
 use Rattle.octets.specs.Codec.{asking}
 use Rattle.octets.proofs.CodecLaws.{built-refused, built-asked}
 use Rattle.records.specs.CookieValue.{agreeing, cookieValueCodec}

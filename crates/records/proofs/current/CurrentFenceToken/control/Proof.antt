@@ -1,6 +1,5 @@
 -- `control`: the tests are the definition's, in its order. Assumes nothing.
-use borrow.Author.Tests.{eq-eqb, ne-eqb}
-use borrow.Author.Needs.{needs}
+use Rattle.octets.proofs.Tools.{needs, eq-eqb, ne-eqb}
 use Rattle.records.proofs.current.CurrentFenceToken.control.Statement.{statement}
 use Rattle.records.proofs.current.CurrentFenceToken.control.Tie as tie
 

@@ -1,5 +1,5 @@
 -- `is_lifecycle_open`: the two tests of the definition. Assumes nothing.
-use borrow.Author.Tests.{eq-eqb, ne-eqb}
+use Rattle.octets.proofs.Tools.{eq-eqb, ne-eqb}
 use Rattle.records.proofs.current.CurrentFenceToken.is_lifecycle_open.Statement.{statement}
 use Rattle.records.proofs.current.CurrentFenceToken.is_lifecycle_open.Tie as tie
 

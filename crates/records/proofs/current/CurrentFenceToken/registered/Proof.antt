@@ -1,8 +1,6 @@
 -- `registered`: the cookie is asked first, and then the rule on the fields. Assumes nothing.
-use mathlib.Core.Bool.{not}
-use lib.Dec.{eqb}
-use borrow.Author.Tests.{eq-eqb, ne-eqb}
-use Rattle.octets.proofs.Calls.{free}
+use Rattle.octets.specs.Words.{not, eqb}
+use Rattle.octets.proofs.Tools.{eq-eqb, ne-eqb, free}
 use Rattle.octets.specs.Codec.{asking}
 use Rattle.octets.proofs.CodecLaws.{built-refused, built-asked}
 use Rattle.records.specs.Current.{currentCodec}

@@ -1,5 +1,5 @@
 -- `is_sound`: the rule on the record's own numbers. Assumes nothing.
-use Rattle.octets.proofs.Calls.{free}
+use Rattle.octets.proofs.Tools.{free}
 use Rattle.records.proofs.entry.FenceEntry.is_sound.Statement.{statement}
 use Rattle.records.proofs.entry.FenceEntry.is_sound.Tie as tie
 

@@ -1,5 +1,5 @@
 -- `from_control`: one arm for each control of the definition. Assumes nothing.
-use borrow.Author.Tests.{ne-eqb}
+use Rattle.octets.proofs.Tools.{ne-eqb}
 use Rattle.records.proofs.entry.FenceEntryState.from_control.Statement.{statement}
 use Rattle.records.proofs.entry.FenceEntryState.from_control.Tie as tie
 

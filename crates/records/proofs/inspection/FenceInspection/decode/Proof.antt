@@ -1,5 +1,5 @@
 -- `decode`: the length first, then the fields. Assumes nothing.
-use Rattle.octets.proofs.Calls.{free}
+use Rattle.octets.proofs.Tools.{free}
 use Rattle.octets.proofs.CodecLaws.{decode-length, decode-read}
 use Rattle.records.specs.Inspection.{inspectionCodec}
 use Rattle.records.proofs.inspection.FenceInspection.decode.Statement.{statement}

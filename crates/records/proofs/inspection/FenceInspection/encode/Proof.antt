@@ -1,6 +1,5 @@
 -- `encode`: its answers are those of every encoder. Assumes nothing.
-use borrow.Author.Needs.{needs}
-use Rattle.octets.proofs.Calls.{free}
+use Rattle.octets.proofs.Tools.{needs, free}
 use Rattle.octets.proofs.CodecLaws.{encode-refused, encode-written}
 use Rattle.records.specs.Inspection.{inspectionCodec}
 use Rattle.records.proofs.InspectionLaws.{numbers-counted}

@@ -1,5 +1,5 @@
 -- `is_sound`: a record is sound where its parts are. Assumes nothing.
-use Rattle.octets.proofs.Calls.{free}
+use Rattle.octets.proofs.Tools.{free}
 use Rattle.records.proofs.InspectionLaws.{inspection-sound}
 use Rattle.records.proofs.inspection.FenceInspection.is_sound.Statement.{statement}
 use Rattle.records.proofs.inspection.FenceInspection.is_sound.Tie as tie

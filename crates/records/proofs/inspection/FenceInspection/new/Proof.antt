@@ -1,6 +1,5 @@
 -- `new`: a sound record is the one that its numbers stand for. Assumes nothing.
-use mathlib.Core.Path.{refl, sym, _∙_}
-use Rattle.octets.proofs.Calls.{free}
+use Rattle.octets.proofs.Tools.{refl, sym, _∙_, free}
 use Rattle.octets.proofs.CodecLaws.{built-done, built-refused}
 use Rattle.records.specs.Inspection.{inspectionCodec}
 use Rattle.records.proofs.InspectionLaws.{inspection-forth}

@@ -1,7 +1,5 @@
 -- `write`: the parts one after the other are the layout. Assumes nothing.
-use mathlib.Core.Path.{sym}
-use borrow.Author.Needs.{needs}
-use Rattle.octets.proofs.Calls.{free}
+use Rattle.octets.proofs.Tools.{sym, needs, free}
 use Rattle.records.proofs.InspectionLaws.{inspection-puts}
 use Rattle.records.proofs.inspection.FenceInspection.write.Statement.{statement}
 use Rattle.records.proofs.inspection.FenceInspection.write.Tie as tie

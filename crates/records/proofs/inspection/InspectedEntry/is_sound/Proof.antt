@@ -1,8 +1,7 @@
 -- `is_sound`: by the two cases. Assumes nothing.
-use Rattle.octets.proofs.Calls.{free}
+use Rattle.octets.proofs.Tools.{needs, free}
 use Rattle.records.specs.Inspection.{partRule}
 use Rattle.octets.specs.Octets.{allZero}
-use borrow.Author.Needs.{needs}
 use Rattle.records.proofs.inspection.InspectedEntry.is_sound.Statement.{statement}
 use Rattle.records.proofs.inspection.InspectedEntry.is_sound.Tie as tie
 

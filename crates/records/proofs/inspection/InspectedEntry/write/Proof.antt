@@ -1,6 +1,5 @@
 -- `write`: by the two cases. Assumes nothing.
-use borrow.Author.Needs.{needs}
-use Rattle.octets.proofs.Calls.{free}
+use Rattle.octets.proofs.Tools.{needs, free}
 use Rattle.records.proofs.inspection.InspectedEntry.write.Statement.{statement}
 use Rattle.records.proofs.inspection.InspectedEntry.write.Tie as tie
 

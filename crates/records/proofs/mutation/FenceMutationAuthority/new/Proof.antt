@@ -1,5 +1,5 @@
 -- `new`: the rule decides, and accepted numbers give their record. Assumes nothing.
-use Rattle.octets.proofs.Calls.{free}
+use Rattle.octets.proofs.Tools.{free}
 use Rattle.octets.proofs.CodecLaws.{built-done, built-refused}
 use Rattle.records.specs.Mutation.{mutationCodec}
 use Rattle.records.proofs.mutation.FenceMutationAuthority.new.Statement.{statement}
