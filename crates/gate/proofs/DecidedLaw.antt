@@ -9,17 +9,17 @@ use Rattle.octets.specs.Codec.{decodeNumber, decodeValue}
 use Rattle.octets.proofs.CodecLaws.{and-right}
 use Rattle.records.specs.Entry.{closed}
 use Rattle.records.specs.CookieValue.{cookieValueCodec, entryOf}
-use Rattle.packet.specs.Answers.{dispositionNumber}
+use Rattle.packet.specs.Answers.{dispositionNumber, dispositionOf}
 use Rattle.verdict.specs.Verdict.{slotOf, staleAuthority, entryVerdict, registeredVerdict, protectedVerdict, egressVerdict}
 use Rattle.verdict.specs.declared.CounterSlot.{CounterSlot}
 use Rattle.verdict.specs.declared.FenceVerdict.the-variants.{DropStaleToken}
 use Rattle.verdict.specs.declared.RegisteredEntry.the-variants.{Present}
 use Rattle.gate.specs.Table.{isUnder, firstOf}
 use Rattle.gate.specs.Gate.{Call, Rule, rules, firstRule, answering, decodes, stale, expired, endpoint, reading, token, registered, sought, value, gateOf}
-use Rattle.gate.specs.Decided.{undecoded, dispositionOf, contextOf, entryIn, snapshotOf, Decided}
+use Rattle.gate.specs.Decided.{undecoded, contextOf, entryIn, snapshotOf, Decided}
 use Rattle.gate.proofs.TableLaws.{first-found}
 use Rattle.gate.proofs.RuleLaws.{at, over, here, or-left, or-right}
-use Rattle.gate.proofs.Dispositions.{disposition-at-most-2, disposed}
+use Rattle.packet.proofs.Dispositions.{disposition-at-most-2, disposed}
 
 -- the slot of the rule that answers, and that it is none of those that answer for bytes
 abbrev Slot : List Rule → Call → CounterSlot

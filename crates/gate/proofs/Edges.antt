@@ -12,7 +12,8 @@ use Rattle.records.specs.Entry.{stateRule}
 use Rattle.records.specs.CookieValue.{cookieValueRule, cookieValue, cookieValueCodec}
 use Rattle.records.specs.declared.entry.FenceEntryState.the-variants.{Active}
 use Rattle.packet.specs.Reading.{sortOf, udpOf, passOf, countedOf, fragmentOf, stepOf, walkOf, ipv4Head, ipv6Head, known, classifyOf}
-use Rattle.packet.specs.Places.{bytesAt, inside, udpPlaces, named}
+use Rattle.octets.specs.Lists.{bytesAt, inside}
+use Rattle.packet.specs.Places.{udpPlaces, named}
 use Rattle.verdict.specs.declared.CounterSlot.the-variants.{Slot}
 use Rattle.gate.specs.declared.Socket.{Socket}
 use Rattle.gate.specs.Table.{admissible, recordsIn, records, isUnder, under, firstOf}

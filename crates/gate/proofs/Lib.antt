@@ -5,7 +5,6 @@ pub mod RuleLaws
 pub mod Unique
 pub mod Rules
 pub mod IsolationLaw
-pub mod Dispositions
 pub mod DecidedLaw
 pub mod Witnesses
 pub mod Edges

@@ -2,9 +2,8 @@
 -- `PacketFenceContext` and `FenceAuthoritySnapshot`). Assumes nothing.
 use Rattle.octets.specs.Words.{ℕ, _≡_, Bool, false, cond, _||_, [], _∷_, length, eqb}
 use Rattle.records.specs.CookieValue.{entryOf}
-use Rattle.packet.specs.Reading.{among}
-use Rattle.packet.specs.declared.PacketEndpointDisposition.{PacketEndpointDisposition}
-use Rattle.packet.specs.declared.PacketEndpointDisposition.the-variants.{Protected, Unrelated, Indeterminate}
+use Rattle.octets.specs.Lists.{among}
+use Rattle.packet.specs.Answers.{dispositionOf}
 use Rattle.verdict.specs.Verdict.{egressVerdict}
 use Rattle.verdict.specs.declared.PacketFenceContext.{PacketFenceContext}
 use Rattle.verdict.specs.declared.FenceAuthoritySnapshot.{FenceAuthoritySnapshot}
@@ -15,10 +14,6 @@ use Rattle.gate.specs.Gate.{Call, matches, endpoint, root, reading, toke
 -- the rules that answer because bytes do not decode, or a table is not one
 abbrev pub undecoded : ℕ → Bool
 undecoded n = among n (1 ∷ 6 ∷ 7 ∷ 9 ∷ [])
-
--- the disposition of a number
-abbrev pub dispositionOf : ℕ → PacketEndpointDisposition
-dispositionOf n = cond (eqb n 0) Protected (cond (eqb n 1) Unrelated Indeterminate)
 
 abbrev pub contextOf : Call → PacketFenceContext
 contextOf c = record {

@@ -4,7 +4,8 @@
 -- under the same key. Then verdict and header count are the same. Assumes nothing.
 use Rattle.octets.specs.Words.{_≡_, Bool, true, not, _&&_, length, eqb}
 use Rattle.records.specs.Current.{currentCodec}
-use Rattle.packet.specs.Places.{bytesAt, places}
+use Rattle.octets.specs.Lists.{bytesAt}
+use Rattle.packet.specs.Places.{places}
 use Rattle.gate.specs.Table.{admissible, firstOf}
 use Rattle.gate.specs.Gate.{Call, decodes, endpoint, token, sought, gateOf}
 

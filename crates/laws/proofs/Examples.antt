@@ -11,7 +11,8 @@ use Rattle.records.specs.Mutation.{mutationRule, mutationCodec}
 use Rattle.records.specs.Current.{currentRule, currentCodec}
 use Rattle.packet.specs.Answers.{dispositionNumber}
 use Rattle.packet.specs.Reading.{sortOf, udpOf, passOf, countedOf, fragmentOf, stepOf, walkOf, ipv4Head, ipv6Head, known, classifyOf}
-use Rattle.packet.specs.Places.{inside, udpPlaces, headerPlaces, stepPlaces, walkPlaces, named, places}
+use Rattle.octets.specs.Lists.{inside}
+use Rattle.packet.specs.Places.{udpPlaces, stepPlaces, walkPlaces, named, places}
 use Rattle.packet.specs.declared.PacketEndpointDisposition.{PacketEndpointDisposition}
 use Rattle.packet.specs.declared.PacketEndpointDisposition.the-variants.{Protected, Unrelated, Indeterminate}
 use Rattle.gate.proofs.Witnesses.{endpoint4500, A}
@@ -75,5 +76,5 @@ examples-hold = refl
 
 -- the places named of A: its fixed header's, and the port's
 pub places-of-A : places A endpoint4500 ≡ 0 ∷ 2 ∷ 3 ∷ 6 ∷ 7 ∷ 9 ∷ 12 ∷ 13 ∷ 14 ∷ 15 ∷ 20 ∷ 21 ∷ []
-unfolding endpoint4500 A octetsAt le be sameOctets inside udpPlaces headerPlaces stepPlaces walkPlaces named ipv4Head
+unfolding endpoint4500 A octetsAt le be sameOctets inside udpPlaces stepPlaces walkPlaces named ipv4Head
 places-of-A = refl

@@ -5,10 +5,11 @@ use Rattle.octets.specs.Words.{ℕ, zero, suc, _+_, _*_, _≤_, _≡_, Bool, tr
 use Rattle.octets.proofs.Tools.{refl, ap, arith, ltb-false}
 use lib.ListN.{List·getD-eq-default}
 use Rattle.octets.specs.Octets.{octetsAt, le}
+use Rattle.octets.specs.Lists.{span, inside, bytesAt}
 use Rattle.endpoint.specs.declared.ProtectedEndpoint.{ProtectedEndpoint}
 use Rattle.packet.specs.Rfc791.{version}
-use Rattle.packet.specs.Reading.{Outcome, settled, onward, follow, sortOf, udpOf, passOf, countedOf, fragmentOf, stepOf, stop, passed, walkOf, ipv4Head, ipv4Of, ipv6Head, ipv6Of, known, classifyOf}
-use Rattle.packet.specs.Places.{span, inside, bytesAt, udpPlaces, headerPlaces, stepPlaces, walkPlaces, ipv4Rest, ipv6Rest, named, places}
+use Rattle.packet.specs.Reading.{Outcome, settled, onward, follow, entered, sortOf, udpOf, passOf, countedOf, fragmentOf, stepOf, stop, passed, walkOf, ipv4Head, ipv4Of, ipv6Head, ipv6Of, known, classifyOf}
+use Rattle.packet.specs.Places.{udpPlaces, stepPlaces, walkPlaces, ipv4Rest, ipv6Rest, named, places}
 
 module _ (s t : List ℕ) where
   -- s and t have the same bytes at the places l
@@ -59,14 +60,14 @@ module _ (s t : List ℕ) where
   udp-same port e c h = choice (ltb e (c + 8)) _ _ h (λ _. refl) (λ h′. rw (field c 2 h′))
 
   -- a header whose length is one function of its second byte, for each such function
-  counted-same : (e a c : ℕ) (f : List ℕ → ℕ) → Same (headerPlaces e a c 2 (span c 2)) → countedOf s e a c (f (octetsAt s (c + 1) 1)) ≡ countedOf t e a c (f (octetsAt t (c + 1) 1))
-  unfolding countedOf headerPlaces
+  counted-same : (e a c : ℕ) (f : List ℕ → ℕ) → Same (entered [] e a c 2 (span c 2)) → countedOf s e a c (f (octetsAt s (c + 1) 1)) ≡ countedOf t e a c (f (octetsAt t (c + 1) 1))
+  unfolding countedOf
   counted-same e a c f h =
       choice (eqb a 0 || ltb e (c + 2)) _ _ h (λ _. refl)
       (λ h′. let r = split (span c 1) (span (c + 1) 1) h′ in rw (field (c + 1) 1 (r .1)) (pass-same e c _ (r .0)))
 
-  fragment-same : (e a c : ℕ) → Same (headerPlaces e a c 8 (c ∷ span (c + 2) 2)) → fragmentOf s e a c ≡ fragmentOf t e a c
-  unfolding fragmentOf headerPlaces
+  fragment-same : (e a c : ℕ) → Same (entered [] e a c 8 (c ∷ span (c + 2) 2)) → fragmentOf s e a c ≡ fragmentOf t e a c
+  unfolding fragmentOf
   fragment-same e a c h =
       choice (eqb a 0 || ltb e (c + 8)) _ _ h (λ _. refl)
       (λ h′. let r = split (span c 1) (span (c + 2) 2) h′ in rw (field (c + 2) 2 (r .1), pass-same e c 8 (r .0)))

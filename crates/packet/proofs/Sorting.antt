@@ -4,7 +4,8 @@ use Rattle.octets.specs.Words.{ℕ, zero, suc, _<_, _≡_, Bool, true, false, c
 use Rattle.octets.proofs.Tools.{refl, arith, eqb-true}
 use mathlib.Core.Logic.{⊎-elim}
 use native.Mathlib.Nat.{eq-or-lt-of-le}
-use Rattle.packet.specs.Reading.{among, sortOf}
+use Rattle.packet.specs.Reading.{sortOf}
+use Rattle.octets.specs.Lists.{among}
 
 -- the values of 01's lines, a list to a class: port test, Unrelated, 8(n + 1), 4(n + 2), Fragment
 pub lines : List (List ℕ)

@@ -1,26 +1,21 @@
 -- The reading is the contract's alone: the contract gives the disposition's number and the count, and no two dispositions have one
--- number, since `disposed` gives each back from its own. Assumes nothing.
-use Rattle.octets.specs.Words.{ℕ, _≡_, cond, eqb}
+-- number, since `dispositionOf` gives each back from its own. Assumes nothing.
+use Rattle.octets.specs.Words.{_≡_}
 use Rattle.octets.proofs.Tools.{refl, sym, ap, _∙_}
 use Rattle.octets.specs.Determined.{Determined}
-use Rattle.packet.specs.Answers.{dispositionNumber, answerOf}
+use Rattle.packet.specs.Answers.{dispositionNumber, dispositionOf, answerOf}
 use Rattle.packet.specs.declared.PacketEndpointDisposition.{PacketEndpointDisposition}
 use Rattle.packet.specs.declared.PacketEndpointDisposition.the-variants.{Protected, Unrelated, Indeterminate}
 use Rattle.packet.specs.declared.PacketReading.{PacketReading}
 use Rattle.packet.proofs as the
 
--- the disposition of a number
-disposed : ℕ → PacketEndpointDisposition
-disposed n = cond (eqb n 0) Protected (cond (eqb n 1) Unrelated Indeterminate)
-
-back : (d : PacketEndpointDisposition) → disposed (dispositionNumber d) ≡ d
-unfolding disposed
+back : (d : PacketEndpointDisposition) → dispositionOf (dispositionNumber d) ≡ d
 back Protected = refl
 back Unrelated = refl
 back Indeterminate = refl
 
 pub disposition-injective : (d e : PacketEndpointDisposition) → dispositionNumber d ≡ dispositionNumber e → d ≡ e
-disposition-injective d e h = sym (back d) ∙ ap disposed h ∙ back e
+disposition-injective d e h = sym (back d) ∙ ap dispositionOf h ∙ back e
 
 pub reading-injective : (x y : PacketReading) → answerOf x ≡ answerOf y → x ≡ y
 reading-injective x y e =

@@ -1,5 +1,5 @@
 -- What the code's types stand for: the number of each case, and the values of the definitions. Assumes nothing.
-use Rattle.octets.specs.Words.{ℕ, _+_, _≤_, _≡_}
+use Rattle.octets.specs.Words.{ℕ, _+_, _≤_, _≡_, cond, eqb}
 use Rattle.packet.specs.Reading.{protected, unrelated, indeterminate, Answer, Outcome, settled, onward}
 use Rattle.packet.specs.declared.PacketEndpointDisposition.{PacketEndpointDisposition}
 use Rattle.packet.specs.declared.PacketEndpointDisposition.the-variants.{Protected, Unrelated, Indeterminate}
@@ -13,6 +13,10 @@ abbrev pub dispositionNumber : PacketEndpointDisposition → ℕ
 dispositionNumber Protected = protected
 dispositionNumber Unrelated = unrelated
 dispositionNumber Indeterminate = indeterminate
+
+-- and the disposition of a number
+abbrev pub dispositionOf : ℕ → PacketEndpointDisposition
+dispositionOf n = cond (eqb n 0) Protected (cond (eqb n 1) Unrelated Indeterminate)
 
 abbrev pub answerOf : PacketReading → Answer
 answerOf r = record { disposition = dispositionNumber (r .disposition); headers = r .headers }

@@ -1,36 +1,22 @@
 -- Document 01, 'Places named for demand 3': the places of a packet, read against an endpoint, that may matter. Assumes nothing.
 use Rattle.octets.specs.Words.{ℕ, zero, suc, _+_, cond, _||_, List, [], _∷_, _++_, map, length, getD, eqb, ltb}
+use Rattle.octets.specs.Lists.{span, inside}
 use Rattle.endpoint.specs.declared.ProtectedEndpoint.{ProtectedEndpoint}
 use Rattle.packet.specs.Rfc791 as ip4
 use Rattle.packet.specs.Rfc8200 as ip6
-use Rattle.packet.specs.Reading.{follow, byClass, sortOf, stepOf, ipv4Head, ipv6Head}
-
--- n places from i on; those of some places that lie inside a packet of n bytes; the bytes at some places
-abbrev pub span : ℕ → ℕ → List ℕ
-span i zero = []
-span i (suc n) = i ∷ span (i + 1) n
-
-unfoldable pub inside : ℕ → List ℕ → List ℕ
-inside n [] = []
-inside n (i ∷ l) = cond (ltb i n) (i ∷ inside n l) (inside n l)
-
-unfoldable pub bytesAt : List ℕ → List ℕ → List ℕ
-bytesAt s l = map (λ i. getD s i 0) l
+use Rattle.packet.specs.Reading.{follow, entered, byClass, sortOf, stepOf, ipv4Head, ipv6Head}
 
 -- at a header: the two port bytes if reached; of an extension header whose allowance and first room test hold, bytes 0 and 1,
 -- or 0, 2 and 3 of a Fragment header
 unfoldable pub udpPlaces : ℕ → ℕ → List ℕ
 udpPlaces e c = cond (ltb e (c + 8)) [] (span c 2)
 
-unfoldable pub headerPlaces : ℕ → ℕ → ℕ → ℕ → List ℕ → List ℕ
-headerPlaces e a c r l = cond (eqb a 0 || ltb e (c + r)) [] l
-
 unfoldable pub stepPlaces : ℕ → ℕ → ℕ → ℕ → List ℕ
 stepPlaces e a n c =
     byClass (sortOf n)
     (udpPlaces e c) []
-    (headerPlaces e a c 2 (span c 2)) (headerPlaces e a c 2 (span c 2))
-    (headerPlaces e a c 8 (c ∷ span (c + 2) 2)) []
+    (entered [] e a c 2 (span c 2)) (entered [] e a c 2 (span c 2))
+    (entered [] e a c 8 (c ∷ span (c + 2) 2)) []
 
 unfoldable pub walkPlaces : List ℕ → ℕ → ℕ → ℕ → ℕ → ℕ → List ℕ
 walkPlaces s port e zero n c = stepPlaces e zero n c

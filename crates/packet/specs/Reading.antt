@@ -1,6 +1,7 @@
 -- Document 01, 'Reading a packet': its decisions, in its order. Assumes nothing.
 use Rattle.octets.specs.Words.{ℕ, zero, suc, _+_, Bool, false, cond, not, _||_, List, [], _∷_, length, eqb, ltb}
 use Rattle.octets.specs.Octets.{octetsAt, sameOctets}
+use Rattle.octets.specs.Lists.{among}
 use Rattle.endpoint.specs.declared.ProtectedEndpoint.{ProtectedEndpoint}
 use Rattle.packet.specs.Rfc791 as ip4
 use Rattle.packet.specs.Rfc768 as udp
@@ -38,10 +39,6 @@ stop c d = record { disposition = d; headers = 0 }
 abbrev pub passed : Answer → Answer
 passed r = record { disposition = r .disposition; headers = r .headers + 1 }
 
-abbrev pub among : ℕ → List ℕ → Bool
-among n [] = false
-among n (x ∷ l) = eqb n x || among n l
-
 -- the sorting of the next-header value: 0 port test, 1 Unrelated, 2 length 8(n + 1), 3 length 4(n + 2), 4 Fragment, 5 any other
 unfoldable pub sortOf : ℕ → ℕ
 sortOf n =
@@ -56,21 +53,21 @@ byClass k p u o w f x = cond (eqb k 0) p (cond (eqb k 1) u (cond (eqb k 2) o (co
 
 -- 17: the UDP header at c, in a packet that ends at e. c + 8 > e: Indeterminate; else the port at c decides
 unfoldable pub udpOf : List ℕ → ℕ → ℕ → ℕ → ℕ
-udpOf s port e c = cond (ltb e (c + udp.udpLength)) indeterminate (cond (eqb (udp.sourcePort s c) port) protected unrelated)
+udpOf s port e c = cond (ltb e (c + 8)) indeterminate (cond (eqb (udp.sourcePort s c) port) protected unrelated)
 
 -- an extension header at c, with allowance a, that has l bytes, of which r are looked at: no allowance, c + r > e, or the header
 -- passing e: Indeterminate. A Fragment header's bytes 2 and 3 must both be zero as well
 unfoldable pub passOf : List ℕ → ℕ → ℕ → ℕ → Outcome
 passOf s e c l = cond (ltb e (c + l)) (settled c indeterminate) (onward (ip6.next s c) (c + l))
 
-abbrev pub entered : ℕ → ℕ → ℕ → ℕ → Outcome → Outcome
-entered e a c r o = cond (eqb a 0 || ltb e (c + r)) (settled c indeterminate) o
+abbrev pub entered : {A : Type 0} → A → ℕ → ℕ → ℕ → ℕ → A → A
+entered x e a c r y = cond (eqb a 0 || ltb e (c + r)) x y
 
 unfoldable pub countedOf : List ℕ → ℕ → ℕ → ℕ → ℕ → Outcome
-countedOf s e a c l = entered e a c 2 (passOf s e c l)
+countedOf s e a c l = entered (settled c indeterminate) e a c 2 (passOf s e c l)
 
 unfoldable pub fragmentOf : List ℕ → ℕ → ℕ → ℕ → Outcome
-fragmentOf s e a c = entered e a c 8 (cond (eqb (ip6.fragmentWord s c) 0) (passOf s e c ip6.fragmentLength) (settled c indeterminate))
+fragmentOf s e a c = entered (settled c indeterminate) e a c 8 (cond (eqb (ip6.fragmentWord s c) 0) (passOf s e c 8) (settled c indeterminate))
 
 -- the step at a header of value n
 unfoldable pub stepOf : List ℕ → ℕ → ℕ → ℕ → ℕ → ℕ → Outcome
@@ -107,7 +104,7 @@ ipv6Head s address =
     cond (ltb (length s) 40) (settled 0 indeterminate)
     (cond (not (sameOctets (ip6.source s) (octetsAt address 0 16))) (settled 0 unrelated)
     (cond (eqb (ip6.payloadLength s) 0 || ltb (length s) (ip6.end s)) (settled 0 indeterminate)
-    (onward (ip6.firstNext s) 40)))
+    (onward (ip6.next s 6) 40)))
 
 abbrev pub ipv6Of : List ℕ → ProtectedEndpoint → Answer
 ipv6Of s p = follow stop (ipv6Head s (p .address)) (walkOf s (p .port) (ip6.end s) 4)

@@ -2,8 +2,5 @@
 use Rattle.octets.specs.Words.{ℕ, List}
 use Rattle.octets.specs.Octets.{octetsAt, be}
 
-abbrev pub udpLength : ℕ
-udpLength = 8
-
 abbrev pub sourcePort : List ℕ → ℕ → ℕ
 sourcePort s c = be (octetsAt s c 2)

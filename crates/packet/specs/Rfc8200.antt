@@ -5,9 +5,6 @@ use Rattle.octets.specs.Octets.{octetsAt, le, be}
 abbrev pub payloadLength : List ℕ → ℕ
 payloadLength s = be (octetsAt s 4 2)
 
-abbrev pub firstNext : List ℕ → ℕ
-firstNext s = le (octetsAt s 6 1)
-
 abbrev pub source : List ℕ → List ℕ
 source s = octetsAt s 8 16
 
@@ -15,10 +12,11 @@ source s = octetsAt s 8 16
 abbrev pub end : List ℕ → ℕ
 end s = 40 + payloadLength s
 
--- an extension header at c begins with the next one's value; its second byte counts 8-byte units, the first not counted
+-- the value that names the next header: byte 6 of the fixed header, the first of an extension header
 abbrev pub next : List ℕ → ℕ → ℕ
 next s c = le (octetsAt s c 1)
 
+-- the second byte of an extension header at c counts 8-byte units, the first not counted
 abbrev pub lengthByte : List ℕ → ℕ → ℕ
 lengthByte s c = le (octetsAt s (c + 1) 1)
 
@@ -26,8 +24,5 @@ abbrev pub optionsLength : List ℕ → ℕ → ℕ
 optionsLength s c = 8 * (lengthByte s c + 1)
 
 -- the Fragment header (4.5) has 8 bytes, with offset, two reserved bits and M in bytes 2 and 3
-abbrev pub fragmentLength : ℕ
-fragmentLength = 8
-
 abbrev pub fragmentWord : List ℕ → ℕ → ℕ
 fragmentWord s c = be (octetsAt s (c + 2) 2)

@@ -4,14 +4,13 @@ use Rattle.octets.specs.Words.{ℕ, zero, suc, _+_, _≤_, _≡_, not, _||_, Li
 use Rattle.octets.proofs.Tools.{refl, arith}
 use Rattle.octets.specs.Octets.{octetsAt, sameOctets}
 use Rattle.endpoint.specs.declared.ProtectedEndpoint.{ProtectedEndpoint}
-use Rattle.packet.specs.Answers.{dispositionNumber}
+use Rattle.packet.specs.Answers.{dispositionNumber, dispositionOf}
 use Rattle.packet.specs.Rfc791 as ip4
 use Rattle.packet.specs.Rfc768 as udp
 use Rattle.packet.specs.Rfc8200 as ip6
 use Rattle.packet.specs.Rfc4302 as ah
 use Rattle.packet.specs.Reading.{Answer, Outcome, settled, onward, follow, stop, sortOf, udpOf, passOf, countedOf, fragmentOf, stepOf, walkOf, ipv4Head, ipv4Of, ipv6Head, ipv6Of, known, classifyOf}
 use Rattle.packet.proofs.Laws.{cond-all}
-use Rattle.gate.specs.Decided.{dispositionOf}
 
 abbrev Told : Answer → Type 0
 Told r = r .disposition ≤ 2
@@ -29,7 +28,7 @@ module _ (s : List ℕ) (port e : ℕ) where
   udp-told : (c : ℕ) → udpOf s port e c ≤ 2
   unfolding udpOf
   udp-told c =
-      cond-all (λ d. d ≤ 2) (ltb e (c + udp.udpLength)) (omega arith)
+      cond-all (λ d. d ≤ 2) (ltb e (c + 8)) (omega arith)
       (cond-all (λ d. d ≤ 2) (eqb (udp.sourcePort s c) port) (omega arith) (omega arith))
 
   pass-ends : (c l : ℕ) → Ends (passOf s e c l)
@@ -44,7 +43,7 @@ module _ (s : List ℕ) (port e : ℕ) where
   unfolding fragmentOf
   fragment-ends a c =
       cond-all Ends (eqb a 0 || ltb e (c + 8)) (omega arith)
-      (cond-all Ends (eqb (ip6.fragmentWord s c) 0) (pass-ends c ip6.fragmentLength) (omega arith))
+      (cond-all Ends (eqb (ip6.fragmentWord s c) 0) (pass-ends c 8) (omega arith))
 
   step-ends : (a n c : ℕ) → Ends (stepOf s port e a n c)
   unfolding stepOf
