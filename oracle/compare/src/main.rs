@@ -5,6 +5,7 @@
 //! The two processes share nothing but the query stream, which `stream.rs` describes, so this runs on any machine on which the proved
 //! program runs, by an emulator too.
 
+mod bundles;
 mod rng;
 mod stream;
 mod suites;
@@ -14,6 +15,7 @@ use stream::{compare, write_fixed};
 use suites::{Amount, Suite, SUITES};
 
 const USAGE: &str = "usage: compare sample|full [SUITE] -- COMMAND [ARGUMENTS]   compare COMMAND with the original
+       compare judge sample|full -- COMMAND [ARGUMENTS]     compare the judging program COMMAND with a plain listing
        compare fixed QUERIES ANSWERS                       write the fixed list that the repository keeps
        compare suites                                      list the suites";
 
@@ -27,6 +29,8 @@ fn main() -> ExitCode {
             }
             ExitCode::SUCCESS
         }
+        ["judge", "sample", "--", command @ ..] if !command.is_empty() => run_judge(Amount::Sample, command),
+        ["judge", "full", "--", command @ ..] if !command.is_empty() => run_judge(Amount::Full, command),
         ["fixed", queries, answers] => finish(write_fixed(queries, answers)),
         ["sample", "--", command @ ..] if !command.is_empty() => run(Amount::Sample, None, command),
         ["full", "--", command @ ..] if !command.is_empty() => run(Amount::Full, None, command),
@@ -49,6 +53,24 @@ fn finish(done: Result<(), String>) -> ExitCode {
     }
 }
 
+fn run_judge(amount: Amount, command: &[&str]) -> ExitCode {
+    let verdict = bundles::compare(amount, command);
+    if let Err(why) = &verdict {
+        println!("  {why}");
+    }
+    ended("judge", verdict.is_ok());
+    if verdict.is_ok() {
+        ExitCode::SUCCESS
+    } else {
+        ExitCode::FAILURE
+    }
+}
+
+/// The line that ends a suite.
+fn ended(suite: &str, passed: bool) {
+    println!("suite {suite}: {}", if passed { "passed" } else { "FAILED" });
+}
+
 /// Runs the suites, each against a process of its own. A line `suite NAME: passed` or `suite NAME: FAILED` ends each.
 fn run(amount: Amount, only: Option<&str>, command: &[&str]) -> ExitCode {
     let chosen: Vec<&Suite> = SUITES
@@ -65,7 +87,7 @@ fn run(amount: Amount, only: Option<&str>, command: &[&str]) -> ExitCode {
             println!("  {why}");
             failed += 1;
         }
-        println!("suite {}: {}", suite.name, if verdict.is_ok() { "passed" } else { "FAILED" });
+        ended(suite.name, verdict.is_ok());
     }
     if failed == 0 {
         ExitCode::SUCCESS

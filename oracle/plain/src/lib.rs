@@ -1,6 +1,12 @@
-//! The joined gate as one would write it in Rust from the original's parts: document 01's thirteen rules in their order. The original
-//! has no such gate. This one is what the proved gate is compared with, and what its speed is held against.
+//! The joined gate and the listing of a bundle as one would write them in Rust from the original's parts: document 01's thirteen rules in
+//! their order, its count of headers, its frames. The original has none of these. They are what the proved gate and judge are compared
+//! with, and what their speed is held against.
 
+mod headers;
+mod listing;
+
+pub use headers::headers_passed;
+pub use listing::{listing, LONGEST_BUNDLE};
 use opc_egress_fence_common::*;
 
 /// The longest table: 4,096 records of 40 bytes.
@@ -47,9 +53,28 @@ pub fn config_of(bytes: &[u8]) -> Option<FenceConfig> {
 }
 
 pub fn gate(call: &Call) -> Judged {
+    match config_of(call.config) {
+        Some(config) => gate_under(call, &config),
+        None => judged(FenceVerdict::DropMalformed, 1),
+    }
+}
+
+/// The verdict with 01's header count: "the packet's under rules 1 and 2 passed and socket differing, else 0".
+pub fn gate_with_headers(call: &Call) -> (Judged, u8) {
     let Some(config) = config_of(call.config) else {
-        return judged(FenceVerdict::DropMalformed, 1);
+        return (judged(FenceVerdict::DropMalformed, 1), 0);
     };
+    let read = call.attachment == config.root_cgroup_id() && !socket_matches(&call.socket, config.endpoint());
+    let headers = if read {
+        headers_passed(call.packet, config.endpoint())
+    } else {
+        0
+    };
+    (gate_under(call, &config), headers)
+}
+
+/// Rules 2 to 13.
+fn gate_under(call: &Call, config: &FenceConfig) -> Judged {
     if call.attachment != config.root_cgroup_id() {
         return judged(FenceVerdict::DropMalformed, 2);
     }

@@ -8,7 +8,7 @@ use super::records::edge;
 use super::{verdict, Amount, Sink, Suite};
 use crate::rng::Rng;
 use opc_egress_fence_common::*;
-use plain::{config_of, gate, socket_matches, Call, Socket};
+use plain::{gate_with_headers, Call, Socket};
 
 const KIND: u8 = 56;
 
@@ -23,22 +23,22 @@ pub const SUITE: Suite = Suite {
 };
 
 #[derive(Clone)]
-struct Asked {
-    config: Vec<u8>,
-    attachment: u64,
-    socket: Endpoint,
-    packet: Vec<u8>,
-    cookie: u64,
-    current: Vec<u8>,
+pub struct Asked {
+    pub config: Vec<u8>,
+    pub attachment: u64,
+    pub socket: Endpoint,
+    pub packet: Vec<u8>,
+    pub cookie: u64,
+    pub current: Vec<u8>,
     filler: [u8; 40],
     before: u16,
     own: Vec<u8>,
     after: u16,
-    now: u64,
+    pub now: u64,
 }
 
 impl Asked {
-    fn table(&self) -> Vec<u8> {
+    pub fn table(&self) -> Vec<u8> {
         let mut table = self.filler.repeat(self.before.into());
         table.extend(&self.own);
         table.extend(self.filler.repeat(self.after.into()));
@@ -70,8 +70,7 @@ fn ask(sink: &mut dyn Sink, it: &Asked) {
         address: it.socket.address,
         port: it.socket.port,
     };
-    let headers = headers(it, &socket);
-    let judged = gate(&Call {
+    let (judged, headers) = gate_with_headers(&Call {
         config: &it.config,
         attachment: it.attachment,
         socket,
@@ -88,32 +87,6 @@ fn ask(sink: &mut dyn Sink, it: &Asked) {
         &[slot, dropped, headers],
         SUITE.outcomes[usize::from(judged.rule) - 1],
     );
-}
-
-/// 01: "The header count is the packet's under rules 1 and 2 passed and socket differing, else 0."
-fn headers(it: &Asked, socket: &Socket) -> u8 {
-    match config_of(&it.config) {
-        Some(config) if config.root_cgroup_id() == it.attachment && !socket_matches(socket, config.endpoint()) => {
-            let endpoint = match config.endpoint() {
-                ProtectedEndpoint::Ipv4 { address, port } => {
-                    let mut padded = [0; 16];
-                    padded[..4].copy_from_slice(&address);
-                    Endpoint {
-                        family: 4,
-                        address: padded,
-                        port,
-                    }
-                }
-                ProtectedEndpoint::Ipv6 { address, port } => Endpoint {
-                    family: 6,
-                    address,
-                    port,
-                },
-            };
-            packet::read(&it.packet, &endpoint).1
-        }
-        _ => 0,
-    }
 }
 
 fn value(cookie: u64, token: u64, deadline: u64) -> [u8; 40] {
@@ -144,7 +117,7 @@ fn config(endpoint: &Endpoint, root: u64) -> Vec<u8> {
 }
 
 /// A call that is allowed: 01's case, over IPv4 or over IPv6 with an extension header.
-fn allowed(endpoint: &Endpoint) -> Asked {
+pub fn allowed(endpoint: &Endpoint) -> Asked {
     let udp = [0x11, 0x94, 0, 53, 0, 8, 0, 0];
     let packet = if endpoint.family == 4 {
         vec![
@@ -386,7 +359,7 @@ fn cuts(sink: &mut dyn Sink, base: &Asked) {
 }
 
 /// Alters one part of a call.
-fn perturb(it: &mut Asked, rng: &mut Rng, endpoint: &Endpoint) {
+pub fn perturb(it: &mut Asked, rng: &mut Rng, endpoint: &Endpoint) {
     match rng.below(13) {
         0 => flip(&mut it.config, rng),
         1 => flip(&mut it.current, rng),

@@ -3,8 +3,8 @@
 mod constructors;
 mod deadline;
 mod endpoint;
-mod gate;
-mod packet;
+pub mod gate;
+pub mod packet;
 mod records;
 mod verdict;
 

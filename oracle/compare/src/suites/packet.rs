@@ -1,9 +1,11 @@
 //! `classify_l3_udp_source`: kind 8, an endpoint (family, address 16, port) and a packet; the answer is 01's number of the disposition
-//! and the number of extension headers passed. The original has no such number: it is counted here, from 01 ('Reading a packet').
+//! and the number of extension headers passed. The original has no such number: `plain` counts, from 01
+//! ('Reading a packet').
 
 use super::{endpoint, Amount, Sink, Suite};
 use crate::rng::Rng;
 use opc_egress_fence_common::{classify_l3_udp_source, PacketEndpointDisposition, ProtectedEndpoint};
+use plain::headers_passed;
 
 const KIND: u8 = 8;
 
@@ -61,38 +63,7 @@ pub fn read(packet: &[u8], endpoint: &Endpoint) -> (u8, u8) {
         PacketEndpointDisposition::Unrelated => 1,
         PacketEndpointDisposition::Indeterminate => 2,
     };
-    (disposition, headers_passed(packet, endpoint))
-}
-
-/// 01: the extension headers passed; the one at which reading stops is not counted, and no answer before the walk counts any.
-fn headers_passed(packet: &[u8], endpoint: &Endpoint) -> u8 {
-    let walks = endpoint.family == 6 && packet.len() >= 40 && packet[0] >> 4 == 6 && packet[8..24] == endpoint.address;
-    if !walks {
-        return 0;
-    }
-    let payload = usize::from(u16::from_be_bytes([packet[4], packet[5]]));
-    let end = 40 + payload;
-    if payload == 0 || end > packet.len() {
-        return 0;
-    }
-    let (mut next, mut at, mut passed) = (packet[6], 40, 0);
-    while passed < 4 {
-        let looked_at = if next == 44 { 8 } else { 2 };
-        if at + looked_at > end {
-            break;
-        }
-        let length = match next {
-            0 | 43 | 60 => 8 * (usize::from(packet[at + 1]) + 1),
-            51 => 4 * (usize::from(packet[at + 1]) + 2),
-            44 if packet[at + 2] == 0 && packet[at + 3] == 0 => 8,
-            _ => break,
-        };
-        if at + length > end {
-            break;
-        }
-        (next, at, passed) = (packet[at], at + length, passed + 1);
-    }
-    passed
+    (disposition, headers_passed(packet, original))
 }
 
 pub fn ask(sink: &mut dyn Sink, packet: &[u8], endpoint: &Endpoint) {
@@ -313,7 +284,7 @@ fn random(sink: &mut dyn Sink, rng: &mut Rng, good: &[(Vec<u8>, Endpoint)]) {
     ask(sink, &packet, &endpoint);
 }
 
-fn random_chain(rng: &mut Rng) -> Vec<u8> {
+pub fn random_chain(rng: &mut Rng) -> Vec<u8> {
     let depth = rng.pick(&[0, 1, 2, 3, 3, 4, 4, 4, 4, 5, 5, 6]);
     let headers: Vec<(u8, u8)> = (0..depth)
         .map(|_| (rng.pick(&[0, 43, 44, 51, 60]), rng.pick(&[0, 0, 0, 1, 2, 3])))
