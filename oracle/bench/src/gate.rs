@@ -54,7 +54,7 @@ fn proved_gate(call: &Call) -> u32 {
     answer & 0xff
 }
 
-fn value(cookie: u64, deadline: u64) -> [u8; 40] {
+pub fn value(cookie: u64, deadline: u64) -> [u8; 40] {
     let key = FenceCookieKey::new(cookie, 3).expect("neither is 0");
     let entry = FenceEntry::active(3, deadline, 2).expect("the entry is sound");
     FenceCookieValue::new(key, entry).expect("the tokens agree").encode()

@@ -2,13 +2,17 @@
 //!
 //!     bench cases             the cases by number; fails where the two sides answer differently
 //!     bench SIDE CASE N       SIDE is `proved` or `rust`: the sum of N answers
+//!     bench bundles           the bundles for the judge, by number
+//!     bench bundle N          writes a bundle
 //!
 //! `oracle/bench/run` counts the instructions of so many calls by callgrind, as the difference of two runs.
 
+mod bundles;
 mod classify;
 mod gate;
 
 use std::hint::black_box;
+use std::io::Write;
 use std::process::ExitCode;
 
 /// A case: its name, how many calls are counted, and each side as a function that is called once.
@@ -50,6 +54,21 @@ fn main() -> ExitCode {
     let chosen = |number: &str, times: &str| Some((cases.get(number.parse::<usize>().ok()?)?, times.parse::<u64>().ok()?));
     match words.as_slice() {
         ["cases"] => return list(&cases),
+        ["bundles"] => {
+            for (number, bundle) in bundles::bundles().iter().enumerate() {
+                println!("{number}\t{}", bundle.name);
+            }
+            return ExitCode::SUCCESS;
+        }
+        ["bundle", number] => {
+            let bundles = bundles::bundles();
+            if let Some(bundle) = number.parse::<usize>().ok().and_then(|number| bundles.get(number)) {
+                return match std::io::stdout().write_all(&bundle.bytes) {
+                    Ok(()) => ExitCode::SUCCESS,
+                    Err(_) => ExitCode::FAILURE,
+                };
+            }
+        }
         [side @ ("proved" | "rust"), number, times] => {
             if let Some((case, times)) = chosen(number, times) {
                 repeat(if *side == "proved" { &case.proved } else { &case.rust }, times);
@@ -58,6 +77,6 @@ fn main() -> ExitCode {
         }
         _ => {}
     }
-    eprintln!("usage: bench cases | bench proved|rust CASE N");
+    eprintln!("usage: bench cases | bench proved|rust CASE N | bench bundles | bench bundle N");
     ExitCode::from(2)
 }

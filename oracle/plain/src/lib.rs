@@ -74,6 +74,7 @@ pub fn gate_with_headers(call: &Call) -> (Judged, u8) {
 }
 
 /// Rules 2 to 13.
+#[inline(always)]
 fn gate_under(call: &Call, config: &FenceConfig) -> Judged {
     if call.attachment != config.root_cgroup_id() {
         return judged(FenceVerdict::DropMalformed, 2);
