@@ -24,9 +24,17 @@ A line is a frame; `#` begins a comment; numbers are decimal, or hexadecimal beh
   bytes [HEX]                                bytes as they stand, with no frame around them";
 
 fn main() -> ExitCode {
-    if std::env::args().len() > 1 {
-        eprintln!("{USAGE}");
-        return ExitCode::from(2);
+    let words: Vec<String> = std::env::args().skip(1).collect();
+    match words.iter().map(String::as_str).collect::<Vec<_>>().as_slice() {
+        [] => {}
+        ["-h" | "--help"] => {
+            println!("{USAGE}");
+            return ExitCode::SUCCESS;
+        }
+        _ => {
+            eprintln!("{USAGE}");
+            return ExitCode::from(2);
+        }
     }
     match run() {
         Ok(()) => ExitCode::SUCCESS,
