@@ -3,18 +3,13 @@
 use crate::classify::{chain, A, IPV6};
 use crate::gate::value;
 use opc_egress_fence_common::*;
+use plain::put_frame;
 
 const LIMIT: usize = 65_536;
 
 pub struct Bundle {
     pub name: &'static str,
     pub bytes: Vec<u8>,
-}
-
-fn frame(out: &mut Vec<u8>, kind: u16, body: &[u8]) {
-    out.extend((body.len() as u32).to_le_bytes());
-    out.extend(kind.to_le_bytes());
-    out.extend(body);
 }
 
 /// The frames before the records: configuration, current record, and a call of socket 9 from no address.
@@ -26,9 +21,9 @@ fn head(endpoint: ProtectedEndpoint) -> Vec<u8> {
     call.extend([0; 19]);
     call.extend(9u64.to_le_bytes());
     call.extend(999u64.to_le_bytes());
-    frame(&mut out, 1, &config.encode());
-    frame(&mut out, 2, &current.encode());
-    frame(&mut out, 4, &call);
+    put_frame(&mut out, 1, &config.encode());
+    put_frame(&mut out, 2, &current.encode());
+    put_frame(&mut out, 4, &call);
     out
 }
 
@@ -36,15 +31,15 @@ fn head(endpoint: ProtectedEndpoint) -> Vec<u8> {
 fn bundle(name: &'static str, endpoint: ProtectedEndpoint, records: u64, packet: &[u8]) -> Bundle {
     let mut bytes = head(endpoint);
     for index in 1..records {
-        frame(&mut bytes, 3, &value(1000 + index, 1000));
+        put_frame(&mut bytes, 3, &value(1000 + index, 1000));
     }
-    frame(&mut bytes, 3, &value(9, 1000));
+    put_frame(&mut bytes, 3, &value(9, 1000));
     while bytes.len() + 2 * (6 + packet.len()) <= LIMIT {
-        frame(&mut bytes, 5, packet);
+        put_frame(&mut bytes, 5, packet);
     }
     let mut last = packet.to_vec();
     last.resize(LIMIT - bytes.len() - 6, 0);
-    frame(&mut bytes, 5, &last);
+    put_frame(&mut bytes, 5, &last);
     Bundle { name, bytes }
 }
 

@@ -5,7 +5,7 @@ use crate::rng::Rng;
 use crate::suites::gate::{allowed, perturb, Asked};
 use crate::suites::packet::{self, random_chain};
 use crate::suites::Amount;
-use plain::{listing, LONGEST_BUNDLE};
+use plain::{listing, put_frame, LONGEST_BUNDLE};
 use std::collections::BTreeMap;
 use std::io::Write;
 use std::process::{Command, Stdio};
@@ -46,12 +46,6 @@ struct Bundle {
     piece: usize,
 }
 
-fn frame(out: &mut Vec<u8>, kind: u16, body: &[u8]) {
-    out.extend((body.len() as u32).to_le_bytes());
-    out.extend(kind.to_le_bytes());
-    out.extend(body);
-}
-
 fn call_body(it: &Asked) -> Vec<u8> {
     let mut body = it.attachment.to_le_bytes().to_vec();
     body.push(it.socket.family);
@@ -66,22 +60,22 @@ fn call_body(it: &Asked) -> Vec<u8> {
 /// stood before is in force.
 fn scene(out: &mut Vec<u8>, it: &Asked, rng: &mut Rng, all: bool) {
     if all || rng.one_in(3) {
-        frame(out, 1, &it.config);
+        put_frame(out, 1, &it.config);
     }
     if all || rng.one_in(3) {
-        frame(out, 2, &it.current);
+        put_frame(out, 2, &it.current);
     }
     if all || rng.one_in(4) {
         for record in it.table().chunks_exact(40) {
-            frame(out, 3, record);
+            put_frame(out, 3, record);
         }
     }
     if all || !rng.one_in(4) {
-        frame(out, 4, &call_body(it));
+        put_frame(out, 4, &call_body(it));
     }
     let chain = it.config[6] == 6 && rng.one_in(2);
     let packet = if chain { random_chain(rng) } else { it.packet.clone() };
-    frame(out, 5, &packet);
+    put_frame(out, 5, &packet);
 }
 
 /// A bundle of some calls, one after another.
@@ -108,21 +102,21 @@ fn with_ending(mut bytes: Vec<u8>, rng: &mut Rng) -> (Vec<u8>, &'static str) {
         }
         1 => {
             let body = vec![0x45; 1 + rng.below(60)];
-            frame(&mut bytes, rng.pick(&[1, 2, 3, 4, 5]), &body);
+            put_frame(&mut bytes, rng.pick(&[1, 2, 3, 4, 5]), &body);
             bytes.truncate(bytes.len() - 1 - rng.below(body.len()));
             (bytes, "bad: cut in a frame's body")
         }
         2 => {
             let kind = rng.pick(&[0, 6, 7, 255, 256, 257, 261, 0x0500, 65535]);
-            frame(&mut bytes, kind, &vec![0; rng.pick(&[0, 24, 40, 43])]);
-            frame(&mut bytes, 5, &[0x60]);
+            put_frame(&mut bytes, kind, &vec![0; rng.pick(&[0, 24, 40, 43])]);
+            put_frame(&mut bytes, 5, &[0x60]);
             (bytes, "bad: unknown kind")
         }
         3 => {
             let (kind, length) = rng.pick(&[(1, 40), (2, 24), (3, 40), (4, 43)]);
             let wrong = rng.pick(&[0, 1, 24, 39, 40, 41, 42, 43, 44, 80]);
-            frame(&mut bytes, kind, &vec![0; if wrong == length { wrong + 1 } else { wrong }]);
-            frame(&mut bytes, 5, &[0x60]);
+            put_frame(&mut bytes, kind, &vec![0; if wrong == length { wrong + 1 } else { wrong }]);
+            put_frame(&mut bytes, 5, &[0x60]);
             (bytes, "bad: wrong length")
         }
         4 => {
@@ -140,17 +134,17 @@ fn with_ending(mut bytes: Vec<u8>, rng: &mut Rng) -> (Vec<u8>, &'static str) {
 fn at_the_limit() -> Vec<Bundle> {
     let mut empty_packets = Vec::new();
     while empty_packets.len() + 16 <= LONGEST_BUNDLE {
-        frame(&mut empty_packets, 5, &[]);
+        put_frame(&mut empty_packets, 5, &[]);
     }
     let filled = |length: usize| {
         let mut bytes = empty_packets.clone();
         let body = vec![0x60; length - bytes.len() - 6];
-        frame(&mut bytes, 5, &body);
+        put_frame(&mut bytes, 5, &body);
         bytes
     };
     let whole = |bytes: Vec<u8>, ending, piece| Bundle { bytes, ending, piece };
     let mut one_packet = Vec::new();
-    frame(&mut one_packet, 5, &vec![0x45; LONGEST_BUNDLE - 6]);
+    put_frame(&mut one_packet, 5, &vec![0x45; LONGEST_BUNDLE - 6]);
     vec![
         whole(vec![], "end", 1),
         whole(filled(LONGEST_BUNDLE), "end", 4096),

@@ -54,6 +54,13 @@ pub fn listing(bundle: &[u8]) -> Vec<u8> {
     out
 }
 
+/// Appends a frame to a bundle.
+pub fn put_frame(bundle: &mut Vec<u8>, kind: u16, body: &[u8]) {
+    bundle.extend((body.len() as u32).to_le_bytes());
+    bundle.extend(kind.to_le_bytes());
+    bundle.extend(body);
+}
+
 /// The frame at the start of the bytes, if it is whole: its kind and its body.
 fn frame(bytes: &[u8]) -> Option<(u16, &[u8])> {
     let (length, rest) = bytes.split_first_chunk::<4>()?;
