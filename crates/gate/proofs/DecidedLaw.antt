@@ -19,7 +19,7 @@ use Rattle.gate.specs.Gate.{Call, Rule, rules, firstRule, answering, dec
 use Rattle.gate.specs.Decided.{undecoded, contextOf, entryIn, snapshotOf, Decided}
 use Rattle.gate.proofs.TableLaws.{first-found}
 use Rattle.gate.proofs.RuleLaws.{at, over, here, or-left, or-right}
-use Rattle.packet.proofs.Dispositions.{disposition-at-most-2, disposed}
+use Rattle.gate.proofs.Dispositions.{disposition-at-most-2, disposed}
 
 -- the slot of the rule that answers, and that it is none of those that answer for bytes
 abbrev Slot : List Rule → Call → CounterSlot

@@ -5,6 +5,7 @@ pub mod RuleLaws
 pub mod Unique
 pub mod Rules
 pub mod IsolationLaw
+pub mod Dispositions
 pub mod DecidedLaw
 pub mod Witnesses
 pub mod Edges

@@ -14,14 +14,13 @@
 //   (`FUNCTION-determined`), and no two cases of an enum have one number (`decision-injective`, `disposition-injective`,
 //   `slot-injective`).
 // - Reading a packet. `packet/proofs`: 0 to 4 headers are passed (`count-at-most-4` in `Count.antt`), the sorting of the next-header
-//   value covers each of 256 values once (`sorted-once` in `Sorting.antt`), a reading has one of three dispositions
-//   (`disposition-at-most-2` in `Dispositions.antt`), and a packet's answer depends on its named places alone (`isolation` in
-//   `Isolation.antt`).
+//   value covers each of 256 values once (`sorted-once` in `Sorting.antt`), and a packet's answer depends on its named places alone
+//   (`isolation` in `Isolation.antt`).
 // - The gate. `gate/proofs`: the first rule that applies answers (`first-that-applies`, `some-rule-applies`, `rule-answers` in
 //   `Rules.antt`); each of the thirteen answers some call (`every-rule-answers` in `Witnesses.antt`); wherever the bytes decode the
 //   gate is `decide_egress` (`is-decide-egress` in `DecidedLaw.antt`, stated in `gate/specs/Decided.antt`); calls at the rules' edges
 //   (`edges-hold` in `Edges.antt`); a record that is found has forty bytes and stands under the key (`first-found` in
-//   `TableLaws.antt`).
+//   `TableLaws.antt`); a packet's reading has one of three dispositions (`disposition-at-most-2` in `Dispositions.antt`).
 // - Isolation, demand 3. `isolated` in `gate/proofs/IsolationLaw.antt`, stated in `gate/specs/Isolation.antt`; with `alike`, two calls
 //   that it is about, and the gate that drops all, which is isolated and refused (`drops-all-is-isolated`, `drops-all-is-refused` in
 //   `Edges.antt`).

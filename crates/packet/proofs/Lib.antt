@@ -1,7 +1,6 @@
--- The laws of `packet`: the answer is the contract's alone, the count, the dispositions, the sorting and isolation. Assumes nothing.
+-- The laws of `packet`: the answer is the contract's alone, the count, the sorting and isolation. Assumes nothing.
 pub mod Laws
 pub mod Unique
 pub mod Count
-pub mod Dispositions
 pub mod Sorting
 pub mod Isolation
