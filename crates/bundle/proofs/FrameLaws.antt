@@ -1,0 +1,125 @@
+-- The laws of frames: a whole frame lies in the bundle, so that less is left after it, and the feed at a place is what the frame there
+-- says and then the feed after it. And what the bodies are as parts of the input. Assumes nothing.
+use Rattle.octets.specs.Words.{ℕ, _+_, _-_, _<_, _≤_, _≡_, List, _++_, length, take, drop, replicate, eqb, ltb, leb}
+use Rattle.octets.proofs.Tools.{refl, sym, ap, _∙_, arith, le-leb, lt-leb, eqb-true, ltb-false}
+use lib.ListN.{length-replicate, replicate-append-replicate}
+use lib.Seq.{take-at}
+use Rattle.octets.specs.Octets.{Bytes, octetsAt, le, leBytes, put}
+use Rattle.octets.proofs.OctetsLaws.{length-octets, octets-append, octets-drop, leBytes-le, Bytes-octets}
+use Rattle.records.proofs.AddressLaws.{stored}
+use Rattle.gate.specs.Gate.{Answer, gateOf}
+use Rattle.gate.specs.declared.Socket.{Socket}
+use Rattle.bundle.specs.Feed.{Feed, Step, onward, Less}
+use Rattle.bundle.specs.Frames.{lengthAt, kindAt, past, exactly, frameOf, frameAt, State, Place, socketOf, callOf, stepOf, frameStep, leftAt, feedAt}
+use Rattle.bundle.specs.Steps.{held}
+use Rattle.bundle.specs.declared.frames.Frame.{Frame}
+use Rattle.bundle.specs.declared.frames.Frame.the-variants as frame
+use Rattle.bundle.proofs.Choices.{pick}
+use Rattle.bundle.proofs.FeedLaws.{run-step}
+
+-- ---- a whole frame lies in the bundle
+
+-- how many bytes a frame takes
+unfoldable pub size : Frame → ℕ
+size frame.Config = 46
+size frame.Current = 30
+size frame.CookieValue = 46
+size frame.Call = 49
+size (frame.Packet n) = 6 + n
+size frame.End = 0
+size frame.Bad = 0
+
+exact-size : (n len : ℕ) (f : Frame) → size f ≡ 6 + n → size (exactly n len f) ≤ 6 + len
+unfolding exactly size
+exact-size n len f h = pick (λ x. size x ≤ 6 + len) (eqb len n) (λ e. let q : len ≡ n = eqb-true len n e in omega arith) (λ e. omega arith)
+
+of-size : (kind len : ℕ) → size (frameOf kind len) ≤ 6 + len
+unfolding frameOf size
+of-size kind len =
+    let P : Frame → Type 0 = λ x. size x ≤ 6 + len in
+    pick P (eqb kind 1) (λ e. exact-size 40 len frame.Config refl) (λ e.
+    pick P (eqb kind 2) (λ e. exact-size 24 len frame.Current refl) (λ e.
+    pick P (eqb kind 3) (λ e. exact-size 40 len frame.CookieValue refl) (λ e.
+    pick P (eqb kind 4) (λ e. exact-size 43 len frame.Call refl) (λ e.
+    pick P (eqb kind 5) (λ e. omega arith) (λ e. omega arith)))))
+
+-- ---- the feed at a place
+
+pub nothing-left : (s : List ℕ) (at : ℕ) → length s ≤ at → frameAt s at ≡ frame.End
+unfolding frameAt
+nothing-left s at h = rw (le-leb (length s) at h)
+
+-- a frame takes no more than is left, wherever it stands
+pub left-size : (s : List ℕ) (at : ℕ) → size (frameAt s at) ≤ length s - at
+unfolding frameAt size
+left-size s at =
+    let P : Frame → Type 0 = λ x. size x ≤ length s - at in
+    pick P (leb (length s) at) (λ e. omega arith) (λ e.
+    pick P (ltb (length s) (past at (lengthAt s at))) (λ f. omega arith) (λ f.
+    omega (arith, of-size (kindAt s at) (lengthAt s at), ltb-false (length s) (past at (lengthAt s at)) f)))
+
+-- so the place after it lies in the bundle
+pub inside-at : (s : List ℕ) (at : ℕ) (x : Frame) → at ≤ length s → frameAt s at ≡ x → at + size x ≤ length s
+inside-at s at x h e = let l : size x ≤ length s - at = rw e at (left-size s at) in omega arith
+
+less : (s : List ℕ) (at : ℕ) (st : State) (x : Frame) → size x ≤ length s - at → Less (leftAt s) (length s - at) (stepOf s at st x)
+unfolding stepOf size
+less s at st frame.Config h = omega arith
+less s at st frame.Current h = omega arith
+less s at st frame.CookieValue h = omega arith
+less s at st frame.Call h = omega arith
+less s at st (frame.Packet n) h = omega arith
+less s at st frame.End h = tt
+less s at st frame.Bad h = tt
+
+pub feed-step : (s : List ℕ) (p : Place) → feedAt s p ≡ onward (feedAt s) (frameStep s p)
+unfolding feedAt
+feed-step s p = run-step (frameStep s) (leftAt s) (λ a. less s (a .at) (a .state) (frameAt s (a .at)) (left-size s (a .at))) p
+
+pub feed-at : (s : List ℕ) (p : Place) (x : Frame) → frameAt s (p .at) ≡ x → feedAt s p ≡ onward (feedAt s) (stepOf s (p .at) (p .state) x)
+feed-at s p x e = feed-step s p ∙ rw e
+
+-- ---- bodies as parts of the input
+
+pub octets-part : (s : List ℕ) (at n m : ℕ) → at + n ≤ length s → m ≡ n → take m (drop at s) ≡ octetsAt s at n
+octets-part s at n m h e = rw (← octets-drop s at n h, take-at (octetsAt s at n) (drop (at + n) s) m (length-octets s at n ∙ sym e))
+
+pub held-in : (s : List ℕ) (at n : ℕ) → at + n ≤ length s → held s at n ≡ octetsAt s at n
+unfolding held
+held-in s at n h = rw (le-leb (at + n) (length s) h)
+
+pub held-out : (s : List ℕ) (at n : ℕ) → length s < at + n → held s at n ≡ replicate n 0
+unfolding held
+held-out s at n h = rw (lt-leb (at + n) (length s) h)
+
+pub zeros : (z : List ℕ) (n m : ℕ) → z ≡ replicate 43 0 → n ≤ 43 → m ≡ n → take m z ≡ replicate n 0
+zeros z n m e h k =
+    let whole : n + (43 - n) ≡ 43 = omega arith in
+    let some : ℕ → List ℕ = λ j. replicate j 0 in
+    let parts : some n ++ some (43 - n) ≡ some 43 = replicate-append-replicate n (43 - n) 0 ∙ ap some whole in
+    ap (take m) (e ∙ sym parts) ∙ take-at (some n) (some (43 - n)) m (length-replicate n 0 ∙ sym k)
+
+-- eight octets of a number that was read are those that stand there, so two such stores make the address
+eight : (s : List ℕ) (at : ℕ) → Bytes s → leBytes 8 (le (octetsAt s at 8)) ≡ octetsAt s at 8
+eight s at h = ap (λ (n : ℕ). leBytes n (le (octetsAt s at 8))) (sym (length-octets s at 8)) ∙ leBytes-le (octetsAt s at 8) (Bytes-octets s at 8 h)
+
+pub address : (s : List ℕ) (at : ℕ) → Bytes s → put (put (replicate 16 0) 0 (leBytes 8 (le (octetsAt s at 8)))) 8 (leBytes 8 (le (octetsAt s (at + 8) 8))) ≡ octetsAt s at 16
+address s at h = stored (le (octetsAt s at 8)) (le (octetsAt s (at + 8) 8)) ∙ rw (eight s at h, eight s (at + 8) h) (sym (octets-append s at 8 8))
+
+-- the gate is asked of a packet with the parts of the state
+pub asked-as : (st : State) (packet : List ℕ) {r : Answer} {config call current table part : List ℕ} {socket : Socket} {attachment cookie time : ℕ} →
+    r ≡ gateOf (record { config = config; attachment = attachment; socket = socket; packet = part; cookie = cookie; current = current; table = table; time = time }) →
+    config ≡ st .config → call ≡ st .call → attachment ≡ le (octetsAt call 0 8) → socket ≡ socketOf call → part ≡ packet →
+    cookie ≡ le (octetsAt call 27 8) → current ≡ st .current → table ≡ st .table → time ≡ le (octetsAt call 35 8) → r ≡ gateOf (callOf st packet)
+unfolding callOf
+asked-as st packet e g b n s p k u t m =
+    e ∙ ap gateOf (λ i. record {
+      config = g i;
+      attachment = (n ∙ ap (λ c. le (octetsAt c 0 8)) b) i;
+      socket = (s ∙ ap socketOf b) i;
+      packet = p i;
+      cookie = (k ∙ ap (λ c. le (octetsAt c 27 8)) b) i;
+      current = u i;
+      table = t i;
+      time = (m ∙ ap (λ c. le (octetsAt c 35 8)) b) i;
+    })

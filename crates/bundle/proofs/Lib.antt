@@ -1,0 +1,8 @@
+-- The laws of `bundle`. Assumes nothing.
+pub mod Choices
+pub mod FeedLaws
+pub mod FrameLaws
+pub mod TextLaws
+pub mod ListingLaws
+pub mod Bound
+pub mod Unique

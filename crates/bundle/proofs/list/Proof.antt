@@ -1,0 +1,26 @@
+-- `list`: the listing has room and is written, or nothing is. Assumes nothing.
+use Rattle.octets.proofs.Tools.{sym, _∙_, needs, not-true, not-false}
+use Rattle.bundle.proofs.ListingLaws.{refused, done}
+use Rattle.bundle.proofs.list.Statement.{statement}
+use Rattle.bundle.proofs.list.Tie as tie
+
+returns : tie.Need-returns
+returns c = refused (sym (c .before .before .has-room .ensures) ∙ not-true _ (c .if1 .taken))
+
+returns-2 : tie.Need-returns-2
+returns-2 c =
+    let put = c .before .before .before in
+    let room = put .before .before .before in
+    done (sym (room .before .before .has-room .ensures) ∙ not-false _ (room .if1 .left)) (put .put-listing .ensures)
+
+pub list-spec : {M : Type 1} → statement M
+list-spec =
+    tie.close
+    (tie.spec
+    (λ c. search needs)
+    (λ c κs. search needs)
+    returns
+    (λ c. search needs)
+    (λ c κs. search needs)
+    (λ c. search needs)
+    returns-2)

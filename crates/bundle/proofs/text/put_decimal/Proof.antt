@@ -1,0 +1,41 @@
+-- `put_decimal`: one digit, or the digits that stand at the end of the twenty. Assumes nothing.
+use Rattle.octets.specs.Words.{_≡_, length}
+use Rattle.octets.proofs.Tools.{ap, _∙_, arith, needs}
+use Rattle.bundle.proofs.TextLaws.{at-most, one-digit, decimal-most, from-on}
+use Rattle.bundle.proofs.text.put_decimal.Statement.{statement}
+use Rattle.bundle.proofs.text.put_decimal.Tie as tie
+
+returns : tie.Need-returns
+returns c =
+    let put = c .before .before in
+    let few = put .before .before in
+    let n = few .before .before .args .n in
+    (rw (one-digit n 20 (omega arith) (few .if1 .taken)) (put .put-byte .ensures), at-most (put .put-byte .ensures) (omega arith))
+
+returns-2 : tie.Need-returns-2
+returns-2 c =
+    let put = c .before .before in
+    let digits = put .before .before .before .before .before in
+    let n = digits .before .before .before .before .args .n in
+    let long : length (digits .digits-of .last .0) ≡ 20 = search needs in
+    let text = from-on (digits .digits-of .last .0) (digits .digits-of .result) long ∙ digits .digits-of .ensures .1 in
+    let written = rw text at (put .put-text .ensures) in
+    (written, at-most written (decimal-most 20 n))
+
+pub put-decimal-spec : {M : Type 1} → statement M
+put-decimal-spec =
+    tie.close
+    (tie.spec
+    (λ c. search needs)
+    (λ c. search needs)
+    (λ c κs. search needs)
+    (λ c. search needs)
+    returns
+    (λ c. search needs)
+    (λ c κs. search needs)
+    (λ c. search needs)
+    (λ c. search needs)
+    (λ c. search needs)
+    (λ c κs. search needs)
+    (λ c. search needs)
+    returns-2)

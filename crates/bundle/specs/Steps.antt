@@ -1,0 +1,17 @@
+-- What the inner functions of `bundle` are held to: a cursor, and the state that it stands for. What a bundle means is in `Frames` and
+-- does not rest on this. Assumes nothing.
+use Rattle.octets.specs.Words.{ℕ, _+_, cond, List, length, take, replicate, leb}
+use Rattle.octets.specs.Octets.{octetsAt}
+use Rattle.bundle.specs.Frames.{State, Place}
+use Rattle.bundle.specs.declared.frames.Cursor.{Cursor}
+
+-- the n bytes at a place of the input; zeros where they do not lie inside, as long as no such body has come
+unfoldable pub held : List ℕ → ℕ → ℕ → List ℕ
+held s at n = cond (leb (at + n) (length s)) (octetsAt s at n) (replicate n 0)
+
+-- the bodies in force stand in the input, and the table in the gathered bytes t
+abbrev pub stateOf : List ℕ → List ℕ → Cursor → State
+stateOf s t c = record { config = held s (c .config) 40; current = held s (c .current) 24; call = held s (c .call) 43; table = take (c .gathered) t }
+
+abbrev pub placeOf : List ℕ → List ℕ → Cursor → Place
+placeOf s t c = record { at = c .at; state = stateOf s t c }

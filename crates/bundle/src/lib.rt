@@ -1,0 +1,101 @@
+// A bundle and its listing: one pass over the frames, a line for each packet.
+mod frames;
+mod lines;
+mod text;
+
+use frames::Cursor;
+use frames::Frame;
+ghost use Rattle.octets.specs.Words.{_≤_, _≡_, length, leb};
+ghost use Rattle.bundle.specs.Frames.{bundleOf};
+ghost use Rattle.bundle.specs.Text.{Wrote};
+ghost use Rattle.bundle.specs.Listing.{sheet, verdictLine, listing, Lists};
+
+// The longest bundle.
+pub const MAX_BUNDLE: usize = 65_536;
+
+// No listing is longer: at most 10,922 packets with a line of at most 25 bytes each, and a last line of at most 10.
+pub const MAX_LISTING: usize = 273_060;
+
+// What the listing of a bundle answers: 0 and how long the listing is, or 4 where the output is shorter.
+pub struct Listed {
+    pub number: u32,
+    pub length: usize,
+}
+
+// Writes a line for each packet and the last line. The table is gathered in `table`.
+fn put_lines(out: &mut [u8], input: &[u8], table: &mut [u8]) -> usize
+    requires { ⌜ (length (now input) ≤ 65536) × (65536 ≤ length (now table)) ⌝ }
+    ensures { λ r. ⌜ Wrote (now (out .entry)) 0 (sheet verdictLine (bundleOf (now (input .entry)))) (now (out .exit)) r ⌝ }
+{
+    let mut cursor = frames::start(input.len());
+    let mut ordinal: u64 = 0;
+    let mut to = 0;
+    loop {
+        let at = cursor.at;
+        match frames::frame_at(input, at) {
+            Frame::Config => {
+                cursor = cursor.with_config();
+            }
+            Frame::Current => {
+                cursor = cursor.with_current();
+            }
+            Frame::CookieValue => {
+                frames::append_value(table, input, cursor);
+                cursor = cursor.with_value();
+            }
+            Frame::Call => {
+                cursor = cursor.with_call();
+            }
+            Frame::Packet(len) => {
+                let answer = frames::judge(input, table, cursor, len);
+                to = lines::put_line(out, to, ordinal, answer);
+                ordinal += 1;
+                cursor = cursor.past_packet(len);
+            }
+            Frame::End => {
+                return lines::put_last(out, to, b"end ", ordinal);
+            }
+            Frame::Bad => {
+                return lines::put_last(out, to, b"bad ", at as u64);
+            }
+        }
+    }
+}
+
+// Writes the listing so far as `out` reaches, and answers how long the whole is.
+fn put_listing(out: &mut [u8], input: &[u8], table: &mut [u8]) -> usize
+    requires { ⌜ 65536 ≤ length (now table) ⌝ }
+    ensures { λ r. ⌜ Wrote (now (out .entry)) 0 (listing (now (input .entry))) (now (out .exit)) r ⌝ }
+{
+    if MAX_BUNDLE < input.len() {
+        return text::put_text(out, 0, b"long\n");
+    }
+    put_lines(out, input, table)
+}
+
+// Whether the listing has room in so many bytes. It is measured only where the longest listing would have none.
+fn has_room(input: &[u8], table: &mut [u8], room: usize) -> bool
+    requires { ⌜ 65536 ≤ length (now table) ⌝ }
+    ensures { λ r. ⌜ r ≡ leb (length (listing (now (input .entry)))) room ⌝ }
+{
+    if MAX_LISTING <= room {
+        return true;
+    }
+    let mut nothing = [0u8; 1];
+    put_listing(&mut nothing, input, table) <= room
+}
+
+// Writes the listing of a bundle at the start of `out`. Where `out` is shorter it stays as it was.
+pub fn list(input: &[u8], out: &mut [u8]) -> Listed
+    ensures { λ r. ⌜ Lists (now (input .entry)) (now (out .entry)) r (now (out .exit)) ⌝ }
+{
+    let mut table = [0u8; 65536];
+    if !has_room(input, &mut table, out.len()) {
+        return Listed {
+            number: 4,
+            length: 0,
+        };
+    }
+    let length = put_listing(out, input, &mut table);
+    Listed { number: 0, length }
+}
