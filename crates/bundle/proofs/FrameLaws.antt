@@ -62,7 +62,7 @@ left-size s at =
 pub inside-at : (s : List ℕ) (at : ℕ) (x : Frame) → at ≤ length s → frameAt s at ≡ x → at + size x ≤ length s
 inside-at s at x h e = let l : size x ≤ length s - at = rw e at (left-size s at) in omega arith
 
-less : (s : List ℕ) (at : ℕ) (st : State) (x : Frame) → size x ≤ length s - at → Less (leftAt s) (length s - at) (stepOf s at st x)
+pub less : (s : List ℕ) (at : ℕ) (st : State) (x : Frame) → size x ≤ length s - at → Less (leftAt s) (length s - at) (stepOf s at st x)
 unfolding stepOf size
 less s at st frame.Config h = omega arith
 less s at st frame.Current h = omega arith

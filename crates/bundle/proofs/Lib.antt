@@ -5,4 +5,8 @@ pub mod FrameLaws
 pub mod TextLaws
 pub mod ListingLaws
 pub mod Bound
+pub mod EachLine
+pub mod Earlier
+pub mod IsolationLaw
+pub mod Case
 pub mod Unique
