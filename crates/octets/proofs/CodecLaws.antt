@@ -59,6 +59,13 @@ module _ {R : Type 0} (C : Codec R) {vs : List ℕ} {n : ℕ} {v : R} where
   pub built-refused : C .ok vs ≡ false → (n ≡ 2) × (v ≡ C .blank) → Built C vs n v
   built-refused e p = record { number = simp e (p .0); value = simp e (p .1) }
 
+  -- by what a test of soundness answered: b is the rule's answer
+  pub built-sound : {b : Bool} → b ≡ C .ok vs → b ≡ true → (n ≡ 0) × (v ≡ C .of vs) → Built C vs n v
+  built-sound e h = built-done (sym e ∙ h)
+
+  pub built-unsound : {b : Bool} → b ≡ C .ok vs → b ≡ false → (n ≡ 2) × (v ≡ C .blank) → Built C vs n v
+  built-unsound e h = built-refused (sym e ∙ h)
+
   -- the same of numbers that are equal
   pub built-of : {ws : List ℕ} → ws ≡ vs → Built C ws n v → Built C vs n v
   built-of e b = record { number = b .number ∙ ap (fieldsNumber C) e; value = b .value ∙ ap (fieldsValue C) e }
@@ -107,6 +114,17 @@ module _ {R : Type 0} (C : Codec R) {v : R} {out : List ℕ} where
       let both = zero-both (sound C v) (leb (size (C .layout)) (length out)) 3 2 e in
       let there = puts-laid (C .layout) (C .fields v) out 0 ∙ put-laid (C .layout) (C .fields v) out f (leb-true _ _ (both .1)) in
       record { number = sym e; output = simp (both .0, both .1) (p ∙ there) }
+
+  -- the same where the number is answered as it was given, and b is what the test of soundness answered
+  pub encode-kept : {b : Bool} {n : ℕ} → b ≡ sound C v → n ≡ encodeAnswer b (size (C .layout)) (length out) → (n ≡ 0 → ⊥) → Encoded C v out n out
+  encode-kept {b} s e = encode-refused (e ∙ ap (λ (a : Bool). encodeAnswer a (size (C .layout)) (length out)) s)
+
+  pub encode-put : {b : Bool} {n : ℕ} {out′ : List ℕ} → b ≡ sound C v → n ≡ encodeAnswer b (size (C .layout)) (length out) → n ≡ 0 →
+      length (C .fields v) ≡ length (C .layout) → out′ ≡ puts (C .layout) (C .fields v) out 0 → Encoded C v out n out′
+  encode-put {b} s e z f p =
+      let given = ap (λ (a : Bool). encodeAnswer a (size (C .layout)) (length out)) s in
+      let written = encode-written (sym given ∙ sym e ∙ z) f p in
+      record { number = e ∙ given; output = written .output }
 
 -- A rule that is a chain of tests holds where each does.
 pub and-left : (a b : Bool) → (a && b) ≡ true → a ≡ true

@@ -1,11 +1,13 @@
 -- The configuration obeys the laws of every codec: the rule fixes mark, version and zeros, and the address comes back from its two
 -- numbers. Assumes nothing.
-use Rattle.octets.specs.Words.{ℕ, _^_, _<_, _≡_, true, not, List, [], _∷_, length, eqb}
+use Rattle.octets.specs.Words.{ℕ, _^_, _<_, _≡_, true, not, _&&_, List, [], _∷_, length, eqb}
 use Rattle.octets.proofs.Tools.{ap, eqb-true}
 use lib.Dec.{lit<}
 use Rattle.octets.specs.Octets.{Bytes, octetsAt, le}
+use Rattle.octets.specs.Codec.{sound}
 use Rattle.octets.proofs.CodecLaws.{Lawful, and-left, and-right}
 use Rattle.endpoint.specs.declared.ProtectedEndpoint.{ProtectedEndpoint}
+use Rattle.endpoint.specs.Endpoint.{soundEndpoint}
 use Rattle.records.specs.declared.config.FenceConfig.{FenceConfig}
 use Rattle.records.specs.Config.{configMark, versionRule, frameRule, config, configCodec}
 use Rattle.records.proofs.AddressLaws.{first-back, second-back, address-forth, half-fits}
@@ -18,6 +20,13 @@ pub record Formed (v : FenceConfig) : Type 0 where
   pub port : v .endpoint .port < 2 ^ 16
   pub root : v .«root_cgroup_id» .0 < 2 ^ 64
   pub capacity : v .capacity < 2 ^ 32
+
+-- a record of its type is sound where its frame is right and its own endpoint is sound: an unsound endpoint gives 2 to the constructor
+pub config-sound : (v : FenceConfig) → Formed v →
+    sound configCodec v ≡ (frameRule configMark 5 0 0 (v .capacity) (v .«root_cgroup_id» .0) && soundEndpoint (v .endpoint))
+config-sound v f =
+    ap (λ (a : List ℕ). frameRule configMark 5 0 0 (v .capacity) (v .«root_cgroup_id» .0) && soundEndpoint (record { family = v .endpoint .family; address = a; port = v .endpoint .port }))
+    (address-forth (v .endpoint .address) (f .sixteen) (f .octets))
 
 config-back : (s : List ℕ) → Bytes s → (i j m v f z p zs k r : ℕ) →
     let vs : List ℕ = m ∷ v ∷ f ∷ z ∷ p ∷ zs ∷ k ∷ r ∷ le (octetsAt s i 8) ∷ le (octetsAt s j 8) ∷ [] in

@@ -11,13 +11,14 @@ use Rattle.octets.proofs.LayoutLaws.{fit-append}
 use Rattle.octets.proofs.CodecLaws.{Lawful, and-left, and-right}
 use Rattle.records.specs.declared.current.CurrentFenceToken.{CurrentFenceToken}
 use Rattle.records.specs.declared.mutation.FenceMutationAuthority.{FenceMutationAuthority}
-use Rattle.records.specs.declared.inspection.InspectedEntry.{InspectedEntry}
-use Rattle.records.specs.declared.inspection.InspectedEntry.the-variants.{Absent, Present}
+use Rattle.records.specs.declared.inspected.InspectedEntry.{InspectedEntry}
+use Rattle.records.specs.declared.inspected.InspectedEntry.the-variants.{Absent, Present}
 use Rattle.records.specs.declared.inspection.FenceInspection.{FenceInspection}
 use Rattle.records.specs.Current.{currentCodec, currentRule}
 use Rattle.records.specs.Mutation.{mutationCodec, mutationRule}
 use Rattle.records.specs.CookieValue.{cookieValueCodec, cookieValueRule}
-use Rattle.records.specs.Inspection.{inspectionMark, headRule, presentFlag, partFields, partNumbers, partRule, partCodec, inspection, headLayout, tailLayout, zeroTail, inspectionCodec}
+use Rattle.records.specs.Inspected.{presentFlag, partFields, partNumbers, partRule, partCodec}
+use Rattle.records.specs.Inspection.{inspectionMark, headRule, inspection, headLayout, tailLayout, zeroTail, inspectionCodec}
 use Rattle.records.proofs.CurrentLaws as current
 use Rattle.records.proofs.MutationLaws as mutation
 use Rattle.records.proofs.CookieValueLaws as value

@@ -177,10 +177,10 @@ config-encode-determined κs a x y u v p q = (p .number ∙ sym (q .number), λ 
 
 -- ---- inspection
 
-pub inspected-flag-determined : Determined the.inspection.InspectedEntry.flag.Kinds.ps the.inspection.InspectedEntry.flag.Kinds.r the.inspection.InspectedEntry.flag.Reads.Learnt
+pub inspected-flag-determined : Determined the.inspected.InspectedEntry.flag.Kinds.ps the.inspected.InspectedEntry.flag.Kinds.r the.inspected.InspectedEntry.flag.Reads.Learnt
 inspected-flag-determined κs a x y u v p q = (p ∙ sym q, refl)
 
-pub inspected-is-sound-determined : Determined the.inspection.InspectedEntry.is_sound.Kinds.ps the.inspection.InspectedEntry.is_sound.Kinds.r the.inspection.InspectedEntry.is_sound.Reads.Learnt
+pub inspected-is-sound-determined : Determined the.inspected.InspectedEntry.is_sound.Kinds.ps the.inspected.InspectedEntry.is_sound.Kinds.r the.inspected.InspectedEntry.is_sound.Reads.Learnt
 inspected-is-sound-determined κs a x y u v p q = (p ∙ sym q, refl)
 
 pub inspection-new-determined : Determined the.inspection.FenceInspection.new.Kinds.ps the.inspection.FenceInspection.new.Kinds.r the.inspection.FenceInspection.new.Reads.Learnt

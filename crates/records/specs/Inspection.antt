@@ -1,17 +1,18 @@
 -- Document 01, 'Record layouts': "Inspection, 128: "OEI1"; version 5; flag 0 or 1; 0; Current at 8; Mutation at 32; Cookie value at
 -- 48, all zero with flag 0; 88 to 127 zero." Assumes nothing.
-use Rattle.octets.specs.Words.{ℕ, Bool, true, false, cond, _&&_, List, [], _∷_, _++_, getD, take, drop, eqb}
+use Rattle.octets.specs.Words.{ℕ, Bool, _&&_, List, [], _∷_, _++_, getD, take, drop, eqb}
 use Rattle.octets.specs.Octets.{allZero}
 use Rattle.octets.specs.Layout.{Field, little, big}
 use Rattle.octets.specs.Codec.{Codec}
 use Rattle.records.specs.declared.current.CurrentFenceToken.{CurrentFenceToken}
 use Rattle.records.specs.declared.mutation.FenceMutationAuthority.{FenceMutationAuthority}
-use Rattle.records.specs.declared.inspection.InspectedEntry.{InspectedEntry}
-use Rattle.records.specs.declared.inspection.InspectedEntry.the-variants.{Absent, Present}
+use Rattle.records.specs.declared.inspected.InspectedEntry.{InspectedEntry}
+use Rattle.records.specs.declared.inspected.InspectedEntry.the-variants.{Absent}
 use Rattle.records.specs.declared.inspection.FenceInspection.{FenceInspection}
 use Rattle.records.specs.Current.{currentCodec}
 use Rattle.records.specs.Mutation.{mutationCodec}
 use Rattle.records.specs.CookieValue.{cookieValueCodec}
+use Rattle.records.specs.Inspected.{presentFlag, partFields, partRule, partCodec}
 
 -- "OEI1": 4f 45 49 31
 abbrev pub inspectionMark : ℕ
@@ -20,32 +21,6 @@ inspectionMark = 0x4f45_4931
 -- of mark, version, the zero after the flag
 unfoldable pub headRule : ℕ → ℕ → ℕ → Bool
 headRule mark version pad = eqb mark inspectionMark && (eqb version 5 && eqb pad 0)
-
--- the flag of the inner entry, and its six numbers: all zero where there is none
-abbrev pub presentFlag : InspectedEntry → ℕ
-presentFlag Absent = 0
-presentFlag (Present v) = 1
-
-abbrev pub partFields : InspectedEntry → List ℕ
-partFields Absent = 0 ∷ 0 ∷ 0 ∷ 0 ∷ 0 ∷ 0 ∷ []
-partFields (Present v) = cookieValueCodec .fields v
-
--- the inner entry by its numbers
-abbrev pub partNumbers : InspectedEntry → List ℕ
-partNumbers e = presentFlag e ∷ partFields e
-
--- under a flag, six numbers: flag 0 zeros, flag 1 a cookie value
-unfoldable pub partRule : ℕ → List ℕ → Bool
-partRule flag vs = cond (eqb flag 0) (allZero vs) (cond (eqb flag 1) (cookieValueCodec .ok vs) false)
-
-abbrev pub partCodec : ℕ → Codec InspectedEntry
-partCodec flag = record {
-  layout = cookieValueCodec .layout;
-  ok = partRule flag;
-  of = λ vs. cond (eqb flag 0) Absent (Present (cookieValueCodec .of vs));
-  fields = partFields;
-  blank = Absent;
-}
 
 abbrev pub inspection : CurrentFenceToken → FenceMutationAuthority → InspectedEntry → FenceInspection
 inspection c m e = record { current = c; mutation = m; entry = e }

@@ -7,7 +7,7 @@ use Rattle.records.specs.declared.key.FenceCookieKey.{FenceCookieKey}
 abbrev pub key : ℕ → ℕ → FenceCookieKey
 key c t = record { «socket_cookie» = record { 0 = c }; «durable_fence_token» = record { 0 = t } }
 
-unfoldable pub keyRule : ℕ → ℕ → Bool
+abbrev pub keyRule : ℕ → ℕ → Bool
 keyRule c t = not (eqb c 0) && not (eqb t 0)
 
 abbrev pub keyCodec : Codec FenceCookieKey

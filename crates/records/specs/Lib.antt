@@ -5,4 +5,5 @@ pub mod Current
 pub mod Entry
 pub mod CookieValue
 pub mod Config
+pub mod Inspected
 pub mod Inspection

@@ -1,7 +1,7 @@
 // An inspection, 128 bytes: the current record, the mutation authority and perhaps a cookie value, as they stood at one moment.
-use crate::cookie_value::FenceCookieValue;
 use crate::current::CurrentAnswer;
 use crate::current::CurrentFenceToken;
+use crate::inspected::InspectedEntry;
 use crate::mutation::FenceMutationAuthority;
 use crate::mutation::MutationAnswer;
 ghost use Rattle.octets.specs.Words.{_≡_, [], _∷_, _++_};
@@ -11,14 +11,8 @@ ghost use Rattle.octets.specs.Stores.{puts};
 ghost use Rattle.octets.specs.Codec.{Built, Decoded, Encoded, sound};
 ghost use Rattle.records.specs.Current.{currentCodec};
 ghost use Rattle.records.specs.Mutation.{mutationCodec};
-ghost use Rattle.records.specs.CookieValue.{cookieValueCodec};
-ghost use Rattle.records.specs.Inspection.{inspectionMark, headRule, presentFlag, partFields, partNumbers, partCodec, inspection, headLayout, tailLayout, zeroTail, inspectionCodec};
-
-// The entry that was asked for, where there was one.
-pub enum InspectedEntry {
-    Absent,
-    Present(FenceCookieValue),
-}
+ghost use Rattle.records.specs.Inspected.{partNumbers};
+ghost use Rattle.records.specs.Inspection.{inspectionMark, headRule, inspection, headLayout, tailLayout, zeroTail, inspectionCodec};
 
 pub struct FenceInspection {
     pub current: CurrentFenceToken,
@@ -30,12 +24,6 @@ pub struct FenceInspection {
 pub struct InspectionAnswer {
     pub number: u32,
     pub value: FenceInspection,
-}
-
-// What the bytes of the inner entry give: 0 and the entry, or 2 and none.
-struct PartAnswer {
-    number: u32,
-    value: InspectedEntry,
 }
 
 // A refusal.
@@ -66,24 +54,6 @@ fn head_is_right(s: &[u8]) -> bool
     mark == FenceInspection::MARK && (version == FenceInspection::VERSION && pad == 0)
 }
 
-fn four_zeros(a: u64, b: u64, c: u64, d: u64) -> bool
-    ensures { λ r. ⌜ r ≡ allZero (a ∷ b ∷ c ∷ d ∷ []) ⌝ }
-{
-    if a != 0 {
-        return false;
-    }
-    if b != 0 {
-        return false;
-    }
-    if c != 0 {
-        return false;
-    }
-    if d != 0 {
-        return false;
-    }
-    true
-}
-
 // The forty bytes at the end.
 fn tail_is_zero(s: &[u8]) -> bool
     ensures { λ r. ⌜ r ≡ allZero (fieldsAt tailLayout (now (s .entry)) 88) ⌝ }
@@ -93,7 +63,7 @@ fn tail_is_zero(s: &[u8]) -> bool
     let c = octets::get_u64_le(s, 104);
     let d = octets::get_u64_le(s, 112);
     let e = octets::get_u64_le(s, 120);
-    a == 0 && four_zeros(b, c, d, e)
+    a == 0 && crate::inspected::four_zeros(b, c, d, e)
 }
 
 fn current_part(s: &[u8]) -> CurrentAnswer
@@ -114,81 +84,6 @@ fn mutation_part(s: &[u8]) -> MutationAnswer
     FenceMutationAuthority::new(generation, claim)
 }
 
-fn absent(number: u32) -> PartAnswer
-    ensures { λ r. ⌜ (r .number ≡ number) × (r .value ≡ InspectedEntry.Absent) ⌝ }
-{
-    PartAnswer {
-        number,
-        value: InspectedEntry::Absent,
-    }
-}
-
-// The inner entry that six numbers give under flag 1.
-fn present(
-    zeros: u32,
-    control: u32,
-    cookie: u64,
-    token: u64,
-    deadline: u64,
-    epoch: u64,
-) -> PartAnswer
-    ensures { λ r. ⌜ Built (partCodec 1) (zeros ∷ control ∷ cookie ∷ token ∷ deadline ∷ epoch ∷ []) (r .number) (r .value) ⌝ }
-{
-    let read = crate::cookie_value::from_fields(zeros, control, cookie, token, deadline, epoch);
-    if read.number != 0 {
-        return absent(2);
-    }
-    let value = read.value;
-    PartAnswer {
-        number: 0,
-        value: InspectedEntry::Present(value),
-    }
-}
-
-// The inner entry that six numbers give under a flag.
-fn part_of(
-    flag: u8,
-    zeros: u32,
-    control: u32,
-    cookie: u64,
-    token: u64,
-    deadline: u64,
-    epoch: u64,
-) -> PartAnswer
-    ensures { λ r. ⌜ Built (partCodec flag) (zeros ∷ control ∷ cookie ∷ token ∷ deadline ∷ epoch ∷ []) (r .number) (r .value) ⌝ }
-{
-    match flag {
-        0 => {
-            if zeros != 0 {
-                return absent(2);
-            }
-            if control != 0 {
-                return absent(2);
-            }
-            if four_zeros(cookie, token, deadline, epoch) {
-                absent(0)
-            } else {
-                absent(2)
-            }
-        }
-        1 => present(zeros, control, cookie, token, deadline, epoch),
-        _ => absent(2),
-    }
-}
-
-fn entry_part(s: &[u8]) -> PartAnswer
-    ensures { λ r. ⌜ Built (partCodec (le (octetsAt (now (s .entry)) 6 1))) (fieldsAt (cookieValueCodec .layout) (now (s .entry)) 48) (r .number) (r .value) ⌝ }
-{
-    let flag = octets::get_u8(s, 6);
-    let zeros = octets::get_u32_le(s, 48);
-    let control = octets::get_u32_le(s, 52);
-    let cookie = octets::get_u64_le(s, 56);
-    let token = octets::get_u64_le(s, 64);
-    let deadline = octets::get_u64_le(s, 72);
-    let epoch = octets::get_u64_le(s, 80);
-    part_of(flag, zeros, control, cookie, token, deadline, epoch)
-}
-
 // The record whose fields stand at the start.
 fn read(s: &[u8]) -> InspectionAnswer
     ensures { λ r. ⌜ Built inspectionCodec (fieldsAt (inspectionCodec .layout) (now (s .entry)) 0) (r .number) (r .value) ⌝ }
@@ -207,7 +102,7 @@ fn read(s: &[u8]) -> InspectionAnswer
     if mutation.number != 0 {
         return refused(2);
     }
-    let entry = entry_part(s);
+    let entry = crate::inspected::entry_part(s);
     if entry.number != 0 {
         return refused(2);
     }
@@ -248,18 +143,6 @@ fn write_front(out: &mut [u8], control: u32, token: u64, cookie: u64, generation
     octets::put_u64_le(out, 40, claim);
 }
 
-// The inner entry, or zeros in its place.
-fn write_part(out: &mut [u8], control: u32, cookie: u64, token: u64, deadline: u64, epoch: u64)
-    ensures { λ r. ⌜ now (out .exit) ≡ puts (cookieValueCodec .layout) (0 ∷ control ∷ cookie ∷ token ∷ deadline ∷ epoch ∷ []) (now (out .entry)) 48 ⌝ }
-{
-    octets::put_u32_le(out, 48, 0);
-    octets::put_u32_le(out, 52, control);
-    octets::put_u64_le(out, 56, cookie);
-    octets::put_u64_le(out, 64, token);
-    octets::put_u64_le(out, 72, deadline);
-    octets::put_u64_le(out, 80, epoch);
-}
-
 // The forty zeros at the end.
 fn write_tail(out: &mut [u8])
     ensures { λ r. ⌜ now (out .exit) ≡ puts tailLayout zeroTail (now (out .entry)) 88 ⌝ }
@@ -269,44 +152,6 @@ fn write_tail(out: &mut [u8])
     octets::put_u64_le(out, 104, 0);
     octets::put_u64_le(out, 112, 0);
     octets::put_u64_le(out, 120, 0);
-}
-
-impl InspectedEntry {
-    // 1 where there is an entry.
-    pub fn flag(self) -> u8
-        ensures { λ r. ⌜ r ≡ presentFlag self ⌝ }
-    {
-        match self {
-            InspectedEntry::Absent => 0,
-            InspectedEntry::Present(_) => 1,
-        }
-    }
-
-    pub fn is_sound(self) -> bool
-        ensures { λ r. ⌜ r ≡ sound (partCodec (presentFlag self)) self ⌝ }
-    {
-        match self {
-            InspectedEntry::Absent => true,
-            InspectedEntry::Present(value) => value.is_sound(),
-        }
-    }
-
-    // Its fields in their place.
-    fn write(self, out: &mut [u8])
-        ensures { λ r. ⌜ now (out .exit) ≡ puts (cookieValueCodec .layout) (partFields self) (now (out .entry)) 48 ⌝ }
-    {
-        match self {
-            InspectedEntry::Absent => write_part(out, 0, 0, 0, 0, 0),
-            InspectedEntry::Present(value) => {
-                let state = value.state;
-                let cookie = value.socket_cookie;
-                let token = value.durable_fence_token;
-                let deadline = value.deadline_boot_ns;
-                let epoch = value.control_epoch;
-                write_part(out, state.control(), cookie.0, token.0, deadline.0, epoch.0)
-            }
-        }
-    }
 }
 
 impl FenceInspection {

@@ -3,7 +3,7 @@ use units::DurableFenceToken;
 use units::SocketCookie;
 ghost use Rattle.octets.specs.Words.{_≡_, [], _∷_};
 ghost use Rattle.octets.specs.Codec.{Built, Decoded, Encoded, sound};
-ghost use Rattle.records.specs.Key.{key, keyRule, keyCodec};
+ghost use Rattle.records.specs.Key.{keyCodec};
 
 pub struct FenceCookieKey {
     pub socket_cookie: SocketCookie,
@@ -16,35 +16,26 @@ pub struct KeyAnswer {
     pub value: FenceCookieKey,
 }
 
-fn rule(cookie: u64, token: u64) -> bool
-    ensures { λ r. ⌜ r ≡ keyRule cookie token ⌝ }
-{
-    cookie != 0 && token != 0
-}
-
-fn answer(number: u32, cookie: u64, token: u64) -> KeyAnswer
-    ensures { λ r. ⌜ (r .number ≡ number) × (r .value ≡ key cookie token) ⌝ }
-{
-    KeyAnswer {
-        number,
-        value: FenceCookieKey {
-            socket_cookie: SocketCookie(cookie),
-            durable_fence_token: DurableFenceToken(token),
-        },
-    }
-}
-
 impl FenceCookieKey {
     pub const LEN: usize = 16;
+
+    const ZERO: FenceCookieKey = FenceCookieKey {
+        socket_cookie: SocketCookie(0),
+        durable_fence_token: DurableFenceToken(0),
+    };
 
     pub fn new(socket_cookie: SocketCookie, durable_fence_token: DurableFenceToken) -> KeyAnswer
         ensures { λ r. ⌜ Built keyCodec («socket_cookie» .0 ∷ «durable_fence_token» .0 ∷ []) (r .number) (r .value) ⌝ }
     {
-        if rule(socket_cookie.0, durable_fence_token.0) {
-            answer(0, socket_cookie.0, durable_fence_token.0)
-        } else {
-            answer(2, 0, 0)
+        let value = FenceCookieKey {
+            socket_cookie,
+            durable_fence_token,
+        };
+        if value.is_sound() {
+            return KeyAnswer { number: 0, value };
         }
+        let value = FenceCookieKey::ZERO;
+        KeyAnswer { number: 2, value }
     }
 
     pub fn socket_cookie(self) -> SocketCookie
@@ -64,14 +55,15 @@ impl FenceCookieKey {
     {
         let cookie = self.socket_cookie;
         let token = self.durable_fence_token;
-        rule(cookie.0, token.0)
+        (cookie.0 != 0) & (token.0 != 0)
     }
 
     pub fn decode(s: &[u8]) -> KeyAnswer
         ensures { λ r. ⌜ Decoded keyCodec (now (s .entry)) (r .number) (r .value) ⌝ }
     {
         if s.len() != FenceCookieKey::LEN {
-            return answer(1, 0, 0);
+            let value = FenceCookieKey::ZERO;
+            return KeyAnswer { number: 1, value };
         }
         let cookie = octets::get_u64_le(s, 0);
         let token = octets::get_u64_le(s, 8);
@@ -82,13 +74,12 @@ impl FenceCookieKey {
         ensures { λ r. ⌜ Encoded keyCodec self (now (out .entry)) r (now (out .exit)) ⌝ }
     {
         let number = octets::encode_number(self.is_sound(), FenceCookieKey::LEN, out.len());
-        if number != 0 {
-            return number;
+        if number == 0 {
+            let cookie = self.socket_cookie;
+            let token = self.durable_fence_token;
+            octets::put_u64_le(out, 0, cookie.0);
+            octets::put_u64_le(out, 8, token.0);
         }
-        let cookie = self.socket_cookie;
-        let token = self.durable_fence_token;
-        octets::put_u64_le(out, 0, cookie.0);
-        octets::put_u64_le(out, 8, token.0);
-        0
+        number
     }
 }

@@ -6,6 +6,7 @@ pub mod config;
 pub mod cookie_value;
 pub mod current;
 pub mod entry;
+pub mod inspected;
 pub mod inspection;
 pub mod key;
 pub mod mutation;

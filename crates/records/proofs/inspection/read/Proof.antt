@@ -4,7 +4,8 @@ use Rattle.octets.specs.Octets.{octetsAt, le}
 use Rattle.octets.proofs.CodecLaws.{built-done, built-refused, done-ok, done-value, refused-ok}
 use Rattle.records.specs.Current.{currentCodec}
 use Rattle.records.specs.Mutation.{mutationCodec}
-use Rattle.records.specs.Inspection.{partCodec, inspection, inspectionCodec}
+use Rattle.records.specs.Inspected.{partCodec}
+use Rattle.records.specs.Inspection.{inspection, inspectionCodec}
 use Rattle.records.proofs.inspection.read.Statement.{statement}
 use Rattle.records.proofs.inspection.read.Tie as tie
 

@@ -3,7 +3,7 @@ use Rattle.octets.proofs.Tools.{refl, free}
 use Rattle.records.specs.Current.{currentRule}
 use Rattle.records.specs.Mutation.{mutationRule}
 use Rattle.records.specs.Inspection.{inspection}
-use Rattle.records.specs.declared.inspection.InspectedEntry.the-variants.{Absent}
+use Rattle.records.specs.declared.inspected.InspectedEntry.the-variants.{Absent}
 use Rattle.records.proofs.inspection.refused.Statement.{statement}
 use Rattle.records.proofs.inspection.refused.Tie as tie
 

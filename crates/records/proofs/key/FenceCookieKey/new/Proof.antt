@@ -1,15 +1,8 @@
--- `new`: the rule decides, and accepted numbers give their record. Assumes nothing.
-use Rattle.octets.proofs.Tools.{free}
-use Rattle.octets.proofs.CodecLaws.{built-done, built-refused}
+-- `new`: a sound record is answered. Assumes nothing.
+use Rattle.octets.proofs.Tools.{refl, free}
+use Rattle.octets.proofs.CodecLaws.{built-sound, built-unsound}
 use Rattle.records.specs.Key.{keyCodec}
-use Rattle.records.proofs.key.FenceCookieKey.new.Statement.{statement}
-use Rattle.records.proofs.key.FenceCookieKey.new.Tie as tie
+use Rattle.records.proofs.key.FenceCookieKey.new as the
 
-returns : tie.Need-returns
-returns c = built-done keyCodec (cc) (c .answer .ensures)
-
-returns-2 : tie.Need-returns-2
-returns-2 c = built-refused keyCodec (cc) (c .answer2 .ensures)
-
-pub new-spec : {M : Type 1} → statement M
-new-spec = tie.close (tie.spec free free free returns returns-2)
+pub new-spec : {M : Type 1} → the.Statement.statement M
+new-spec = the.Tie.close (the.Tie.spec free (λ c. built-sound keyCodec (c .before .is-sound .ensures) (c .if1 .taken) (refl, refl)) (λ c. built-unsound keyCodec (c .before .is-sound .ensures) (c .if1 .left) (refl, refl)))

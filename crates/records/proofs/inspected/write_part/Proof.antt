@@ -1,7 +1,7 @@
 -- `write_part`: one store for each field, in the order of the layout. Assumes nothing.
 use Rattle.octets.proofs.Tools.{needs, free}
-use Rattle.records.proofs.inspection.write_part.Statement.{statement}
-use Rattle.records.proofs.inspection.write_part.Tie as tie
+use Rattle.records.proofs.inspected.write_part.Statement.{statement}
+use Rattle.records.proofs.inspected.write_part.Tie as tie
 
 returns : tie.Need-returns
 returns c = cc

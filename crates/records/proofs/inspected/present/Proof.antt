@@ -1,11 +1,11 @@
 -- `present`: what the cookie value's numbers give, under flag 1. Assumes nothing.
 use Rattle.octets.proofs.Tools.{refl, ap, free}
 use Rattle.octets.proofs.CodecLaws.{built-done, built-refused, done-ok, done-value, refused-ok}
-use Rattle.records.specs.declared.inspection.InspectedEntry.the-variants.{Present}
+use Rattle.records.specs.declared.inspected.InspectedEntry.the-variants.{Present}
 use Rattle.records.specs.CookieValue.{cookieValueCodec}
-use Rattle.records.specs.Inspection.{partRule, partCodec}
-use Rattle.records.proofs.inspection.present.Statement.{statement}
-use Rattle.records.proofs.inspection.present.Tie as tie
+use Rattle.records.specs.Inspected.{partRule, partCodec}
+use Rattle.records.proofs.inspected.present.Statement.{statement}
+use Rattle.records.proofs.inspected.present.Tie as tie
 
 returns : tie.Need-returns
 unfolding partRule

@@ -1,7 +1,7 @@
 -- `write`: by the two cases. Assumes nothing.
 use Rattle.octets.proofs.Tools.{needs, free}
-use Rattle.records.proofs.inspection.InspectedEntry.write.Statement.{statement}
-use Rattle.records.proofs.inspection.InspectedEntry.write.Tie as tie
+use Rattle.records.proofs.inspected.InspectedEntry.write.Statement.{statement}
+use Rattle.records.proofs.inspected.InspectedEntry.write.Tie as tie
 
 returns : tie.Need-returns
 returns c = rw (c .before .before .before .before .enum-told .given .1) (c .before .before .write-part .ensures)

@@ -1,8 +1,8 @@
 -- `four_zeros`: one test for each number of the list. Assumes nothing.
 use Rattle.octets.proofs.Tools.{eq-eqb, ne-eqb}
 use Rattle.octets.specs.Octets.{allZero}
-use Rattle.records.proofs.inspection.four_zeros.Statement.{statement}
-use Rattle.records.proofs.inspection.four_zeros.Tie as tie
+use Rattle.records.proofs.inspected.four_zeros.Statement.{statement}
+use Rattle.records.proofs.inspected.four_zeros.Tie as tie
 
 returns : tie.Need-returns
 unfolding allZero

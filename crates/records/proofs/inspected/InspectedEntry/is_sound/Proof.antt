@@ -1,9 +1,9 @@
 -- `is_sound`: by the two cases. Assumes nothing.
 use Rattle.octets.proofs.Tools.{needs, free}
-use Rattle.records.specs.Inspection.{partRule}
+use Rattle.records.specs.Inspected.{partRule}
 use Rattle.octets.specs.Octets.{allZero}
-use Rattle.records.proofs.inspection.InspectedEntry.is_sound.Statement.{statement}
-use Rattle.records.proofs.inspection.InspectedEntry.is_sound.Tie as tie
+use Rattle.records.proofs.inspected.InspectedEntry.is_sound.Statement.{statement}
+use Rattle.records.proofs.inspected.InspectedEntry.is_sound.Tie as tie
 
 returns : tie.Need-returns
 unfolding partRule allZero

@@ -2,9 +2,9 @@
 use Rattle.octets.proofs.Tools.{sym, _∙_, eq-eqb, ne-eqb, free}
 use Rattle.octets.specs.Octets.{allZero}
 use Rattle.octets.proofs.CodecLaws.{built-done, built-refused}
-use Rattle.records.specs.Inspection.{partRule, partCodec}
-use Rattle.records.proofs.inspection.part_of.Statement.{statement}
-use Rattle.records.proofs.inspection.part_of.Tie as tie
+use Rattle.records.specs.Inspected.{partRule, partCodec}
+use Rattle.records.proofs.inspected.part_of.Statement.{statement}
+use Rattle.records.proofs.inspected.part_of.Tie as tie
 
 returns : tie.Need-returns
 unfolding partRule allZero
