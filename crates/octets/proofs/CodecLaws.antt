@@ -1,9 +1,10 @@
 -- The laws of every codec, proved once. Accepted bytes encode to themselves and only sound records are given; sound records decode to
 -- themselves; an unsound record is given for no bytes (document 01's meaning of 3); and the answers of an encoder. A record owes
 -- `Lawful`, a fact on the numbers of its fields: that `fields` and `of` undo each other on what its rule accepts. The rest is the
--- laws of layouts. Assumes nothing.
+-- laws of layouts. What a codec's proofs cite besides is passed on from here. Assumes nothing.
+pub use Rattle.octets.proofs.Tools.{refl, free, needs}
 use Rattle.octets.specs.Words.{ℕ, suc, _≡_, Bool, true, false, cond, _&&_, List, length, eqb, leb}
-use Rattle.octets.proofs.Tools.{refl, sym, ap, _∙_, true≢false, arith, eq-eqb, ne-eqb, eqb-true, leb-true}
+use Rattle.octets.proofs.Tools.{sym, ap, _∙_, true≢false, arith, eq-eqb, ne-eqb, eqb-true, leb-true}
 use Rattle.octets.specs.Octets.{Bytes}
 use Rattle.octets.specs.Layout.{size, fieldsAt, Fit}
 use Rattle.octets.specs.Stores.{puts}
@@ -52,27 +53,21 @@ two-ways : (b : Bool) (n : ℕ) → n ≡ cond b 0 2 → (n ≡ 0 → b ≡ true
 two-ways true n e = (λ z. refl, λ h. absurd (h e))
 two-ways false n e = (λ z. absurd (omega arith), λ h. refl)
 
-module _ {R : Type 0} (C : Codec R) {vs : List ℕ} {n : ℕ} {v : R} where
-  pub built-done : C .ok vs ≡ true → (n ≡ 0) × (v ≡ C .of vs) → Built C vs n v
-  built-done e p = record { number = simp e (p .0); value = simp e (p .1) }
+module _ {R : Type 0} {C : Codec R} {vs : List ℕ} {n : ℕ} {v : R} where
+  -- b is what a test of the rule answered: under true 0 and the numbers' record, under false 2 and the all-zero record
+  pub built-done : {b : Bool} → b ≡ C .ok vs → b ≡ true → (n ≡ 0) × (v ≡ C .of vs) → Built C vs n v
+  built-done e h p = let holds = sym e ∙ h in record { number = simp holds (p .0); value = simp holds (p .1) }
 
-  pub built-refused : C .ok vs ≡ false → (n ≡ 2) × (v ≡ C .blank) → Built C vs n v
-  built-refused e p = record { number = simp e (p .0); value = simp e (p .1) }
-
-  -- by what a test of soundness answered: b is the rule's answer
-  pub built-sound : {b : Bool} → b ≡ C .ok vs → b ≡ true → (n ≡ 0) × (v ≡ C .of vs) → Built C vs n v
-  built-sound e h = built-done (sym e ∙ h)
-
-  pub built-unsound : {b : Bool} → b ≡ C .ok vs → b ≡ false → (n ≡ 2) × (v ≡ C .blank) → Built C vs n v
-  built-unsound e h = built-refused (sym e ∙ h)
+  pub built-refused : {b : Bool} → b ≡ C .ok vs → b ≡ false → (n ≡ 2) × (v ≡ C .blank) → Built C vs n v
+  built-refused e h p = let fails = sym e ∙ h in record { number = simp fails (p .0); value = simp fails (p .1) }
 
   -- the same of numbers that are equal
   pub built-of : {ws : List ℕ} → ws ≡ vs → Built C ws n v → Built C vs n v
   built-of e b = record { number = b .number ∙ ap (fieldsNumber C) e; value = b .value ∙ ap (fieldsValue C) e }
 
   -- the same of a codec that asks what holds
-  pub built-asked : (b : Bool) → b ≡ true → Built C vs n v → Built (asking b C) vs n v
-  built-asked b e p = record { number = simp e (p .number); value = simp e (p .value) }
+  pub built-asked : {b : Bool} → b ≡ true → Built C vs n v → Built (asking b C) vs n v
+  built-asked e p = record { number = simp e (p .number); value = simp e (p .value) }
 
   -- and what an answer tells of the numbers: 0 that the rule holds and the record is theirs, another that it does not hold
   pub done-ok : Built C vs n v → n ≡ 0 → C .ok vs ≡ true
@@ -85,7 +80,7 @@ module _ {R : Type 0} (C : Codec R) {vs : List ℕ} {n : ℕ} {v : R} where
   refused-ok b = two-ways (C .ok vs) n (b .number) .1
 
 -- The answers of a decoder, in 01's order: 1 before 2.
-module _ {R : Type 0} (C : Codec R) {s : List ℕ} {n : ℕ} {v : R} where
+module _ {R : Type 0} {C : Codec R} {s : List ℕ} {n : ℕ} {v : R} where
   pub decode-length : (length s ≡ size (C .layout) → ⊥) → (n ≡ 1) × (v ≡ C .blank) → Decoded C s n v
   unfolding decodeNumber decodeValue
   decode-length h p = record { number = simp (ne-eqb _ _ h) (p .0); value = simp (ne-eqb _ _ h) (p .1) }
@@ -95,36 +90,30 @@ module _ {R : Type 0} (C : Codec R) {s : List ℕ} {n : ℕ} {v : R} where
   unfolding decodeNumber decodeValue
   decode-read e b = record { number = simp (eq-eqb _ _ e) (b .number); value = simp (eq-eqb _ _ e) (b .value) }
 
--- The answers of an encoder, by the number n that `encode_number` gives.
+-- The answers of an encoder, by the number n that `encode_number` gives of b, what the test of soundness answered.
 untouched : (a b : Bool) (written out : List ℕ) → (_≡_ {A = ℕ} (cond a (cond b 0 4) 3) 0 → ⊥) → cond a (cond b written out) out ≡ out
 untouched true true written out h = absurd (h refl)
 untouched true false written out h = refl
 untouched false b written out h = refl
 
-module _ {R : Type 0} (C : Codec R) {v : R} {out : List ℕ} where
-  -- another number than 0 is answered, and the output left as it is
-  pub encode-refused : {n : ℕ} → n ≡ encodeNumber C v out → (n ≡ 0 → ⊥) → Encoded C v out n out
+given : {R : Type 0} (C : Codec R) (v : R) (out : List ℕ) {b : Bool} {n : ℕ} → b ≡ sound C v → n ≡ encodeAnswer b (size (C .layout)) (length out) → n ≡ encodeNumber C v out
+given C v out s e = e ∙ ap (λ (a : Bool). encodeAnswer a (size (C .layout)) (length out)) s
+
+module _ {R : Type 0} {C : Codec R} {v : R} {out : List ℕ} {b : Bool} {n : ℕ} where
+  -- under another number than 0 the output is left as it is
+  pub encode-refused : b ≡ sound C v → n ≡ encodeAnswer b (size (C .layout)) (length out) → (n ≡ 0 → ⊥) → Encoded C v out n out
   unfolding encodeAnswer encodeBytes
-  encode-refused e h = record { number = e; output = sym (untouched (sound C v) (leb (size (C .layout)) (length out)) _ out (λ z. h (e ∙ z))) }
+  encode-refused s e h =
+      record { number = given C v out s e; output = sym (untouched (sound C v) (leb (size (C .layout)) (length out)) _ out (λ z. h (given C v out s e ∙ z))) }
 
-  -- under 0 the fields are put at the start, and 0 is answered
-  pub encode-written : {out′ : List ℕ} → encodeNumber C v out ≡ 0 → length (C .fields v) ≡ length (C .layout) → out′ ≡ puts (C .layout) (C .fields v) out 0 → Encoded C v out 0 out′
-  unfolding encodeAnswer encodeBytes
-  encode-written e f p =
-      let both = zero-both (sound C v) (leb (size (C .layout)) (length out)) 3 2 e in
-      let there = puts-laid (C .layout) (C .fields v) out 0 ∙ put-laid (C .layout) (C .fields v) out f (leb-true _ _ (both .1)) in
-      record { number = sym e; output = simp (both .0, both .1) (p ∙ there) }
-
-  -- the same where the number is answered as it was given, and b is what the test of soundness answered
-  pub encode-kept : {b : Bool} {n : ℕ} → b ≡ sound C v → n ≡ encodeAnswer b (size (C .layout)) (length out) → (n ≡ 0 → ⊥) → Encoded C v out n out
-  encode-kept {b} s e = encode-refused (e ∙ ap (λ (a : Bool). encodeAnswer a (size (C .layout)) (length out)) s)
-
-  pub encode-put : {b : Bool} {n : ℕ} {out′ : List ℕ} → b ≡ sound C v → n ≡ encodeAnswer b (size (C .layout)) (length out) → n ≡ 0 →
+  -- under 0 the fields are put at the start
+  pub encode-written : {out′ : List ℕ} → b ≡ sound C v → n ≡ encodeAnswer b (size (C .layout)) (length out) → n ≡ 0 →
       length (C .fields v) ≡ length (C .layout) → out′ ≡ puts (C .layout) (C .fields v) out 0 → Encoded C v out n out′
-  encode-put {b} s e z f p =
-      let given = ap (λ (a : Bool). encodeAnswer a (size (C .layout)) (length out)) s in
-      let written = encode-written (sym given ∙ sym e ∙ z) f p in
-      record { number = e ∙ given; output = written .output }
+  unfolding encodeAnswer encodeBytes
+  encode-written s e z f p =
+      let both = zero-both (sound C v) (leb (size (C .layout)) (length out)) 3 2 (sym (given C v out s e) ∙ z) in
+      let there = puts-laid (C .layout) (C .fields v) out 0 ∙ put-laid (C .layout) (C .fields v) out f (leb-true _ _ (both .1)) in
+      record { number = given C v out s e; output = simp (both .0, both .1) (p ∙ there) }
 
 -- A rule that is a chain of tests holds where each does.
 pub and-left : (a b : Bool) → (a && b) ≡ true → a ≡ true

@@ -20,7 +20,7 @@ use Rattle.records.specs.CookieValue.{cookieValueCodec, cookieValueRule}
 use Rattle.records.specs.Inspected.{presentFlag, partFields, partNumbers, partRule, partCodec}
 use Rattle.records.specs.Inspection.{inspectionMark, headRule, inspection, headLayout, tailLayout, zeroTail, inspectionCodec}
 use Rattle.records.proofs.CurrentLaws as current
-use Rattle.records.proofs.MutationLaws as mutation
+use Rattle.records.proofs.PlainLaws as plain
 use Rattle.records.proofs.CookieValueLaws as value
 
 -- ---- the inner entry
@@ -123,7 +123,7 @@ part-fits Absent f = (lit< tt, (lit< tt, (lit< tt, (lit< tt, (lit< tt, (lit< tt,
 part-fits (Present v) f = value.cookie-value-fits v f
 
 abbrev pub Formed : FenceInspection → Type 0
-Formed v = current.Formed (v .current) × mutation.Formed (v .mutation) × PartFormed (v .entry)
+Formed v = current.Formed (v .current) × plain.MutationFormed (v .mutation) × PartFormed (v .entry)
 
 inspection-back : (m v f p z k t c g n z′ k′ c′ t′ d e a₁ a₂ a₃ a₄ a₅ : ℕ) →
     let vs : List ℕ = m ∷ v ∷ f ∷ p ∷ z ∷ k ∷ t ∷ c ∷ g ∷ n ∷ z′ ∷ k′ ∷ c′ ∷ t′ ∷ d ∷ e ∷ a₁ ∷ a₂ ∷ a₃ ∷ a₄ ∷ a₅ ∷ [] in
@@ -149,7 +149,7 @@ inspection-lawful = record {
   back = λ s at b. inspection-back _ _ _ _ _ _ _ _ _ _ _ _ _ _ _ _ _ _ _ _ _;
   forth = λ v f h. inspection-forth v;
   fits = λ v f.
-      fits-by-parts v (current.current-lawful .fits (v .current) (f .0)) (mutation.mutation-lawful .fits (v .mutation) (f .1)) (part-fits (v .entry) (f .2));
+      fits-by-parts v (current.current-lawful .fits (v .current) (f .0)) (plain.mutation-lawful .fits (v .mutation) (f .1)) (part-fits (v .entry) (f .2));
 }
 
 -- there is a number for each field

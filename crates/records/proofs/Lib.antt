@@ -1,6 +1,5 @@
 -- What is shown of `records` beside the proofs of its functions. Assumes nothing.
-pub mod MutationLaws
-pub mod KeyLaws
+pub mod PlainLaws
 pub mod CurrentLaws
 pub mod EntryLaws
 pub mod CookieValueLaws

@@ -1,8 +1,6 @@
 -- Document 01, 'Record layouts': "Cookie value, 40: four zeros, control, cookie (not 0), then token, deadline, epoch as in Entry."
 -- Assumes nothing.
-use Rattle.octets.specs.Words.{ℕ, Bool, not, _&&_, List, [], _∷_, getD, eqb}
-use Rattle.octets.specs.Layout.{little}
-use Rattle.octets.specs.Codec.{Codec, sound}
+use Rattle.records.specs.Words.{ℕ, Bool, not, _&&_, List, [], _∷_, getD, eqb, little, Codec, sound}
 use Rattle.records.specs.declared.entry.FenceEntryState.{FenceEntryState}
 use Rattle.records.specs.declared.entry.FenceEntryState.the-variants.{InitialClosed}
 use Rattle.records.specs.declared.entry.FenceEntry.{FenceEntry}

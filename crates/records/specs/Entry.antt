@@ -1,7 +1,5 @@
 -- Document 01, 'Record layouts': "Entry, 32: four zeros, control, token, deadline, epoch." Assumes nothing.
-use Rattle.octets.specs.Words.{ℕ, _%_, Bool, true, false, cond, not, _&&_, [], _∷_, getD, eqb}
-use Rattle.octets.specs.Layout.{little}
-use Rattle.octets.specs.Codec.{Codec}
+use Rattle.records.specs.Words.{ℕ, _%_, Bool, true, false, cond, not, _&&_, [], _∷_, getD, eqb, little, Codec}
 use Rattle.records.specs.declared.entry.FenceEntryState.{FenceEntryState}
 use Rattle.records.specs.declared.entry.FenceEntryState.the-variants.{InitialClosed, Active, TerminalClosed, Reclaiming}
 use Rattle.records.specs.declared.entry.FenceEntry.{FenceEntry}

@@ -1,8 +1,6 @@
 -- Document 01, 'Record layouts': the inner entry of an inspection, a "flag 0 or 1" and a "Cookie value at 48, all zero with flag 0".
 -- Assumes nothing.
-use Rattle.octets.specs.Words.{ℕ, Bool, false, cond, List, [], _∷_, eqb}
-use Rattle.octets.specs.Octets.{allZero}
-use Rattle.octets.specs.Codec.{Codec}
+use Rattle.records.specs.Words.{ℕ, Bool, false, cond, List, [], _∷_, eqb, allZero, Codec}
 use Rattle.records.specs.declared.inspected.InspectedEntry.{InspectedEntry}
 use Rattle.records.specs.declared.inspected.InspectedEntry.the-variants.{Absent, Present}
 use Rattle.records.specs.CookieValue.{cookieValueCodec}

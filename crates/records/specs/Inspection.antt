@@ -1,9 +1,6 @@
 -- Document 01, 'Record layouts': "Inspection, 128: "OEI1"; version 5; flag 0 or 1; 0; Current at 8; Mutation at 32; Cookie value at
 -- 48, all zero with flag 0; 88 to 127 zero." Assumes nothing.
-use Rattle.octets.specs.Words.{ℕ, Bool, _&&_, List, [], _∷_, _++_, getD, take, drop, eqb}
-use Rattle.octets.specs.Octets.{allZero}
-use Rattle.octets.specs.Layout.{Field, little, big}
-use Rattle.octets.specs.Codec.{Codec}
+use Rattle.records.specs.Words.{ℕ, Bool, _&&_, List, [], _∷_, _++_, getD, take, drop, eqb, allZero, Field, little, big, Codec}
 use Rattle.records.specs.declared.current.CurrentFenceToken.{CurrentFenceToken}
 use Rattle.records.specs.declared.mutation.FenceMutationAuthority.{FenceMutationAuthority}
 use Rattle.records.specs.declared.inspected.InspectedEntry.{InspectedEntry}

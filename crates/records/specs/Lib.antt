@@ -1,4 +1,5 @@
 -- The definitions that the contracts of `records` cite: a codec for each record. Assumes nothing.
+pub mod Words
 pub mod Mutation
 pub mod Key
 pub mod Current

@@ -1,7 +1,5 @@
 -- Document 01, 'Record layouts': "Mutation, 16: generation, claim." Assumes nothing.
-use Rattle.octets.specs.Words.{ℕ, _+_, Bool, _&&_, _||_, [], _∷_, getD, eqb, ltb}
-use Rattle.octets.specs.Layout.{little}
-use Rattle.octets.specs.Codec.{Codec}
+use Rattle.records.specs.Words.{ℕ, _+_, Bool, _&&_, _||_, [], _∷_, getD, eqb, ltb, little, Codec}
 use Rattle.records.specs.declared.mutation.FenceMutationAuthority.{FenceMutationAuthority}
 
 abbrev pub mutation : ℕ → ℕ → FenceMutationAuthority

@@ -1,10 +1,7 @@
 // The configuration, 40 bytes: the protected endpoint, the root cgroup of the attachment, and the cookie map's capacity.
 use endpoint::ProtectedEndpoint;
 use units::RootCgroupId;
-ghost use Rattle.octets.specs.Words.{_≡_, [], _∷_};
-ghost use Rattle.octets.specs.Octets.{octetsAt, le};
-ghost use Rattle.octets.specs.Stores.{puts};
-ghost use Rattle.octets.specs.Codec.{Built, Decoded, Encoded, sound};
+ghost use Rattle.records.specs.Words.{_≡_, [], _∷_, octetsAt, le, puts, Built, Decoded, Encoded, sound};
 ghost use Rattle.records.specs.Config.{versionRule, frameRule, endpointOf, config, frameFields, configCodec};
 
 pub struct FenceConfig {
@@ -23,7 +20,7 @@ pub struct ConfigAnswer {
 fn version_rule(version: u16, capacity: u32) -> bool
     ensures { λ r. ⌜ r ≡ versionRule version capacity ⌝ }
 {
-    version == FenceConfig::VERSION && capacity == FenceConfig::CAPACITY
+    (version == FenceConfig::VERSION) & (capacity == FenceConfig::CAPACITY)
 }
 
 // What is asked of the fields that are no part of the endpoint.
@@ -227,16 +224,15 @@ impl FenceConfig {
         ensures { λ r. ⌜ Encoded configCodec self (now (out .entry)) r (now (out .exit)) ⌝ }
     {
         let number = octets::encode_number(self.is_sound(), FenceConfig::LEN, out.len());
-        if number != 0 {
-            return number;
+        if number == 0 {
+            let endpoint = self.endpoint;
+            let address = endpoint.address;
+            let first = octets::get_u64_le(&address, 0);
+            let second = octets::get_u64_le(&address, 8);
+            self.write_frame(out);
+            octets::put_u64_le(out, 24, first);
+            octets::put_u64_le(out, 32, second);
         }
-        let endpoint = self.endpoint;
-        let address = endpoint.address;
-        let first = octets::get_u64_le(&address, 0);
-        let second = octets::get_u64_le(&address, 8);
-        self.write_frame(out);
-        octets::put_u64_le(out, 24, first);
-        octets::put_u64_le(out, 32, second);
-        0
+        number
     }
 }

@@ -6,8 +6,7 @@ use units::BootNs;
 use units::ControlEpoch;
 use units::DurableFenceToken;
 use units::SocketCookie;
-ghost use Rattle.octets.specs.Words.{_≡_, [], _∷_};
-ghost use Rattle.octets.specs.Codec.{asking, Built, Decoded, Encoded, sound};
+ghost use Rattle.records.specs.Words.{_≡_, [], _∷_, asking, Built, Decoded, Encoded, sound};
 ghost use Rattle.records.specs.CookieValue.{cookieValueRule, cookieValue, cookieValueCodec, keyOf, entryOf, agreeing, pairFields};
 
 pub struct FenceCookieValue {
@@ -154,20 +153,19 @@ impl FenceCookieValue {
         ensures { λ r. ⌜ Encoded cookieValueCodec self (now (out .entry)) r (now (out .exit)) ⌝ }
     {
         let number = octets::encode_number(self.is_sound(), FenceCookieValue::LEN, out.len());
-        if number != 0 {
-            return number;
+        if number == 0 {
+            let state = self.state;
+            let cookie = self.socket_cookie;
+            let token = self.durable_fence_token;
+            let deadline = self.deadline_boot_ns;
+            let epoch = self.control_epoch;
+            octets::put_u32_le(out, 0, 0);
+            octets::put_u32_le(out, 4, state.control());
+            octets::put_u64_le(out, 8, cookie.0);
+            octets::put_u64_le(out, 16, token.0);
+            octets::put_u64_le(out, 24, deadline.0);
+            octets::put_u64_le(out, 32, epoch.0);
         }
-        let state = self.state;
-        let cookie = self.socket_cookie;
-        let token = self.durable_fence_token;
-        let deadline = self.deadline_boot_ns;
-        let epoch = self.control_epoch;
-        octets::put_u32_le(out, 0, 0);
-        octets::put_u32_le(out, 4, state.control());
-        octets::put_u64_le(out, 8, cookie.0);
-        octets::put_u64_le(out, 16, token.0);
-        octets::put_u64_le(out, 24, deadline.0);
-        octets::put_u64_le(out, 32, epoch.0);
-        0
+        number
     }
 }

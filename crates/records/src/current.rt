@@ -1,8 +1,7 @@
 // The current record, 24 bytes: the durable token in force, and the socket cookie registered under it.
 use units::DurableFenceToken;
 use units::SocketCookie;
-ghost use Rattle.octets.specs.Words.{_≡_, not, [], _∷_, eqb};
-ghost use Rattle.octets.specs.Codec.{asking, Built, Decoded, Encoded, sound};
+ghost use Rattle.records.specs.Words.{_≡_, not, [], _∷_, eqb, asking, Built, Decoded, Encoded, sound};
 ghost use Rattle.records.specs.Current.{current, currentRule, currentControl, currentCodec, lifecycleOpen, retirementClosed};
 
 pub struct CurrentFenceToken {
@@ -130,7 +129,7 @@ impl CurrentFenceToken {
         ensures { λ r. ⌜ r ≡ lifecycleOpen self ⌝ }
     {
         let token = self.durable_fence_token;
-        token.0 != 0 && !self.retirement_closed
+        (token.0 != 0) & !self.retirement_closed
     }
 
     // Whether the token closes registration for good.
@@ -138,7 +137,7 @@ impl CurrentFenceToken {
         ensures { λ r. ⌜ r ≡ retirementClosed self ⌝ }
     {
         let token = self.durable_fence_token;
-        token.0 != 0 && self.retirement_closed
+        (token.0 != 0) & self.retirement_closed
     }
 
     pub(crate) fn control(self) -> u32
@@ -179,15 +178,14 @@ impl CurrentFenceToken {
         ensures { λ r. ⌜ Encoded currentCodec self (now (out .entry)) r (now (out .exit)) ⌝ }
     {
         let number = octets::encode_number(self.is_sound(), CurrentFenceToken::LEN, out.len());
-        if number != 0 {
-            return number;
+        if number == 0 {
+            let token = self.durable_fence_token;
+            let cookie = self.registered_socket_cookie;
+            octets::put_u32_le(out, 0, 0);
+            octets::put_u32_le(out, 4, self.control());
+            octets::put_u64_le(out, 8, token.0);
+            octets::put_u64_le(out, 16, cookie.0);
         }
-        let token = self.durable_fence_token;
-        let cookie = self.registered_socket_cookie;
-        octets::put_u32_le(out, 0, 0);
-        octets::put_u32_le(out, 4, self.control());
-        octets::put_u64_le(out, 8, token.0);
-        octets::put_u64_le(out, 16, cookie.0);
-        0
+        number
     }
 }

@@ -2,8 +2,7 @@
 use units::BootNs;
 use units::ControlEpoch;
 use units::DurableFenceToken;
-ghost use Rattle.octets.specs.Words.{_≡_, [], _∷_};
-ghost use Rattle.octets.specs.Codec.{Built, Decoded, Encoded, sound};
+ghost use Rattle.records.specs.Words.{_≡_, [], _∷_, Built, Decoded, Encoded, sound};
 ghost use Rattle.records.specs.Entry.{controlOf, stateFrom, deadlineRule, stateRule, entryRule, entry, entryCodec, closed, terminal, reclaiming};
 
 pub enum FenceEntryState {
@@ -248,18 +247,17 @@ impl FenceEntry {
         ensures { λ r. ⌜ Encoded entryCodec self (now (out .entry)) r (now (out .exit)) ⌝ }
     {
         let number = octets::encode_number(self.is_sound(), FenceEntry::LEN, out.len());
-        if number != 0 {
-            return number;
+        if number == 0 {
+            let state = self.state;
+            let token = self.durable_fence_token;
+            let deadline = self.deadline_boot_ns;
+            let epoch = self.control_epoch;
+            octets::put_u32_le(out, 0, 0);
+            octets::put_u32_le(out, 4, state.control());
+            octets::put_u64_le(out, 8, token.0);
+            octets::put_u64_le(out, 16, deadline.0);
+            octets::put_u64_le(out, 24, epoch.0);
         }
-        let state = self.state;
-        let token = self.durable_fence_token;
-        let deadline = self.deadline_boot_ns;
-        let epoch = self.control_epoch;
-        octets::put_u32_le(out, 0, 0);
-        octets::put_u32_le(out, 4, state.control());
-        octets::put_u64_le(out, 8, token.0);
-        octets::put_u64_le(out, 16, deadline.0);
-        octets::put_u64_le(out, 24, epoch.0);
-        0
+        number
     }
 }

@@ -1,10 +1,6 @@
 // The inner entry of an inspection: a flag at byte 6, and a cookie value or zeros from byte 48 on.
 use crate::cookie_value::FenceCookieValue;
-ghost use Rattle.octets.specs.Words.{_≡_, [], _∷_};
-ghost use Rattle.octets.specs.Octets.{octetsAt, le, allZero};
-ghost use Rattle.octets.specs.Layout.{fieldsAt};
-ghost use Rattle.octets.specs.Stores.{puts};
-ghost use Rattle.octets.specs.Codec.{Built, sound};
+ghost use Rattle.records.specs.Words.{_≡_, [], _∷_, octetsAt, le, allZero, fieldsAt, puts, Built, sound};
 ghost use Rattle.records.specs.CookieValue.{cookieValueCodec};
 ghost use Rattle.records.specs.Inspected.{presentFlag, partFields, partCodec};
 

@@ -4,11 +4,7 @@ use crate::current::CurrentFenceToken;
 use crate::inspected::InspectedEntry;
 use crate::mutation::FenceMutationAuthority;
 use crate::mutation::MutationAnswer;
-ghost use Rattle.octets.specs.Words.{_≡_, [], _∷_, _++_};
-ghost use Rattle.octets.specs.Octets.{octetsAt, le, be, allZero};
-ghost use Rattle.octets.specs.Layout.{fieldsAt};
-ghost use Rattle.octets.specs.Stores.{puts};
-ghost use Rattle.octets.specs.Codec.{Built, Decoded, Encoded, sound};
+ghost use Rattle.records.specs.Words.{_≡_, [], _∷_, _++_, octetsAt, le, be, allZero, fieldsAt, puts, Built, Decoded, Encoded, sound};
 ghost use Rattle.records.specs.Current.{currentCodec};
 ghost use Rattle.records.specs.Mutation.{mutationCodec};
 ghost use Rattle.records.specs.Inspected.{partNumbers};
@@ -243,10 +239,9 @@ impl FenceInspection {
         ensures { λ r. ⌜ Encoded inspectionCodec self (now (out .entry)) r (now (out .exit)) ⌝ }
     {
         let number = octets::encode_number(self.is_sound(), FenceInspection::LEN, out.len());
-        if number != 0 {
-            return number;
+        if number == 0 {
+            self.write(out);
         }
-        self.write(out);
-        0
+        number
     }
 }

@@ -1,8 +1,7 @@
 // The key of a cookie value, 16 bytes: one registered socket's lifecycle.
 use units::DurableFenceToken;
 use units::SocketCookie;
-ghost use Rattle.octets.specs.Words.{_≡_, [], _∷_};
-ghost use Rattle.octets.specs.Codec.{Built, Decoded, Encoded, sound};
+ghost use Rattle.records.specs.Words.{_≡_, [], _∷_, Built, Decoded, Encoded, sound};
 ghost use Rattle.records.specs.Key.{keyCodec};
 
 pub struct FenceCookieKey {

@@ -1,7 +1,6 @@
 // The mutation authority, 16 bytes: the last completed generation, and the claim in flight.
-ghost use Rattle.octets.specs.Words.{_≡_, [], _∷_};
-ghost use Rattle.octets.specs.Codec.{Built, Decoded, Encoded, sound};
-ghost use Rattle.records.specs.Mutation.{mutation, mutationRule, mutationCodec};
+ghost use Rattle.records.specs.Words.{_≡_, [], _∷_, Built, Decoded, Encoded, sound};
+ghost use Rattle.records.specs.Mutation.{mutationCodec};
 
 pub struct FenceMutationAuthority {
     pub generation: u64,
@@ -14,27 +13,13 @@ pub struct MutationAnswer {
     pub value: FenceMutationAuthority,
 }
 
-// A claim is the one next generation; the last generation has none.
-fn rule(generation: u64, claim: u64) -> bool
-    ensures { λ r. ⌜ r ≡ mutationRule generation claim ⌝ }
-{
-    claim == 0 || (generation < 0xffff_ffff_ffff_ffff && claim == generation + 1)
-}
-
-fn answer(number: u32, generation: u64, in_flight_claim: u64) -> MutationAnswer
-    ensures { λ r. ⌜ (r .number ≡ number) × (r .value ≡ mutation generation «in_flight_claim») ⌝ }
-{
-    MutationAnswer {
-        number,
-        value: FenceMutationAuthority {
-            generation,
-            in_flight_claim,
-        },
-    }
-}
-
 impl FenceMutationAuthority {
     pub const LEN: usize = 16;
+
+    const ZERO: FenceMutationAuthority = FenceMutationAuthority {
+        generation: 0,
+        in_flight_claim: 0,
+    };
 
     // Before the first generation.
     pub fn initial() -> MutationAnswer
@@ -46,11 +31,15 @@ impl FenceMutationAuthority {
     pub fn new(generation: u64, in_flight_claim: u64) -> MutationAnswer
         ensures { λ r. ⌜ Built mutationCodec (generation ∷ «in_flight_claim» ∷ []) (r .number) (r .value) ⌝ }
     {
-        if rule(generation, in_flight_claim) {
-            answer(0, generation, in_flight_claim)
-        } else {
-            answer(2, 0, 0)
+        let value = FenceMutationAuthority {
+            generation,
+            in_flight_claim,
+        };
+        if value.is_sound() {
+            return MutationAnswer { number: 0, value };
         }
+        let value = FenceMutationAuthority::ZERO;
+        MutationAnswer { number: 2, value }
     }
 
     pub fn generation(self) -> u64
@@ -65,17 +54,21 @@ impl FenceMutationAuthority {
         self.in_flight_claim
     }
 
+    // A claim is the one next generation; the last generation has none.
     pub fn is_sound(self) -> bool
         ensures { λ r. ⌜ r ≡ sound mutationCodec self ⌝ }
     {
-        rule(self.generation, self.in_flight_claim)
+        let generation = self.generation;
+        let claim = self.in_flight_claim;
+        claim == 0 || (generation < 0xffff_ffff_ffff_ffff && claim == generation + 1)
     }
 
     pub fn decode(s: &[u8]) -> MutationAnswer
         ensures { λ r. ⌜ Decoded mutationCodec (now (s .entry)) (r .number) (r .value) ⌝ }
     {
         if s.len() != FenceMutationAuthority::LEN {
-            return answer(1, 0, 0);
+            let value = FenceMutationAuthority::ZERO;
+            return MutationAnswer { number: 1, value };
         }
         let generation = octets::get_u64_le(s, 0);
         let claim = octets::get_u64_le(s, 8);
@@ -86,11 +79,10 @@ impl FenceMutationAuthority {
         ensures { λ r. ⌜ Encoded mutationCodec self (now (out .entry)) r (now (out .exit)) ⌝ }
     {
         let number = octets::encode_number(self.is_sound(), FenceMutationAuthority::LEN, out.len());
-        if number != 0 {
-            return number;
+        if number == 0 {
+            octets::put_u64_le(out, 0, self.generation);
+            octets::put_u64_le(out, 8, self.in_flight_claim);
         }
-        octets::put_u64_le(out, 0, self.generation);
-        octets::put_u64_le(out, 8, self.in_flight_claim);
-        0
+        number
     }
 }

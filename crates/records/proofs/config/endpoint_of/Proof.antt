@@ -2,13 +2,12 @@
 use Rattle.octets.proofs.Tools.{ap, _∙_, needs, free}
 use Rattle.records.specs.Config.{endpointOf}
 use Rattle.records.proofs.AddressLaws.{stored}
-use Rattle.records.proofs.config.endpoint_of.Statement.{statement}
-use Rattle.records.proofs.config.endpoint_of.Tie as tie
+use Rattle.records.proofs.config.endpoint_of as the
 
-returns : tie.Need-returns
+returns : the.Tie.Need-returns
 returns c =
     let first = c .before .before .before .before in
     rw (c .before .put-u64-le2 .ensures, first .put-u64-le .ensures, stored)
 
-pub endpoint-of-spec : {M : Type 1} → statement M
-endpoint-of-spec = tie.close (tie.spec (λ c. search needs) free (λ c. search needs) free returns)
+pub endpoint-of-spec : {M : Type 1} → the.Statement.statement M
+endpoint-of-spec = the.Tie.close (the.Tie.spec (λ c. search needs) free (λ c. search needs) free returns)

@@ -1,9 +1,8 @@
 -- `entry_part`: the numbers read are those of the layout at byte 48, and the flag at byte 6. Assumes nothing.
 use Rattle.octets.proofs.Tools.{free}
-use Rattle.records.proofs.inspected.entry_part.Statement.{statement}
-use Rattle.records.proofs.inspected.entry_part.Tie as tie
+use Rattle.records.proofs.inspected.entry_part as the
 
-returns : tie.Need-returns
+returns : the.Tie.Need-returns
 returns c =
     let g7 = c .before in
     let g6 = g7 .before in
@@ -14,5 +13,5 @@ returns c =
     let g1 = g2 .before in
     rw (← g1 .get-u8 .ensures, ← g2 .get-u32-le .ensures, ← g3 .get-u32-le2 .ensures, ← g4 .get-u64-le .ensures, ← g5 .get-u64-le2 .ensures, ← g6 .get-u64-le3 .ensures, ← g7 .get-u64-le4 .ensures) (c .part-of .ensures)
 
-pub entry-part-spec : {M : Type 1} → statement M
-entry-part-spec = tie.close (tie.spec free free free free free free free free returns)
+pub entry-part-spec : {M : Type 1} → the.Statement.statement M
+entry-part-spec = the.Tie.close (the.Tie.spec free free free free free free free free returns)

@@ -2,21 +2,19 @@
 use Rattle.octets.proofs.Tools.{refl, ap, free}
 use Rattle.octets.proofs.CodecLaws.{built-done, built-refused, done-ok, done-value, refused-ok}
 use Rattle.records.specs.declared.inspected.InspectedEntry.the-variants.{Present}
-use Rattle.records.specs.CookieValue.{cookieValueCodec}
-use Rattle.records.specs.Inspected.{partRule, partCodec}
-use Rattle.records.proofs.inspected.present.Statement.{statement}
-use Rattle.records.proofs.inspected.present.Tie as tie
+use Rattle.records.specs.Inspected.{partRule}
+use Rattle.records.proofs.inspected.present as the
 
-returns : tie.Need-returns
+returns : the.Tie.Need-returns
 unfolding partRule
-returns c = built-refused (partCodec 1) (refused-ok cookieValueCodec (c .before .before .before .from-fields .ensures) (c .before .if1 .taken)) (c .absent .ensures)
+returns c = built-refused refl (refused-ok (c .before .before .before .from-fields .ensures) (c .before .if1 .taken)) (c .absent .ensures)
 
-returns-2 : tie.Need-returns-2
+returns-2 : the.Tie.Need-returns-2
 unfolding partRule
 returns-2 c =
     let r = c .before .before .before .from-fields .ensures in
     let z = c .before .if1 .left in
-    built-done (partCodec 1) (done-ok cookieValueCodec r z) (refl, ap Present (done-value cookieValueCodec r z))
+    built-done refl (done-ok r z) (refl, ap Present (done-value r z))
 
-pub present-spec : {M : Type 1} → statement M
-present-spec = tie.close (tie.spec free free returns returns-2)
+pub present-spec : {M : Type 1} → the.Statement.statement M
+present-spec = the.Tie.close (the.Tie.spec free free returns returns-2)

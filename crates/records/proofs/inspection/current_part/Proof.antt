@@ -1,12 +1,11 @@
 -- `current_part`: the numbers read are those of the layout at byte 8. Assumes nothing.
 use Rattle.octets.proofs.Tools.{free}
-use Rattle.octets.proofs.CodecLaws.{built-of}
-use Rattle.records.specs.Current.{currentCodec}
-use Rattle.records.proofs.inspection.current_part.Statement.{statement}
-use Rattle.records.proofs.inspection.current_part.Tie as tie
+use Rattle.records.proofs.inspection.current_part as the
 
-returns : tie.Need-returns
-returns c = built-of currentCodec (cc) (c .from-fields .ensures)
+returns : the.Tie.Need-returns
+returns c =
+    let g4 = c .before in let g3 = g4 .before in let g2 = g3 .before in let g1 = g2 .before in
+    rw (← g1 .get-u32-le .ensures, ← g2 .get-u32-le2 .ensures, ← g3 .get-u64-le .ensures, ← g4 .get-u64-le2 .ensures) (c .from-fields .ensures)
 
-pub current-part-spec : {M : Type 1} → statement M
-current-part-spec = tie.close (tie.spec free free free free free returns)
+pub current-part-spec : {M : Type 1} → the.Statement.statement M
+current-part-spec = the.Tie.close (the.Tie.spec free free free free free returns)

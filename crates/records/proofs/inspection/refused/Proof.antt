@@ -4,12 +4,11 @@ use Rattle.records.specs.Current.{currentRule}
 use Rattle.records.specs.Mutation.{mutationRule}
 use Rattle.records.specs.Inspection.{inspection}
 use Rattle.records.specs.declared.inspected.InspectedEntry.the-variants.{Absent}
-use Rattle.records.proofs.inspection.refused.Statement.{statement}
-use Rattle.records.proofs.inspection.refused.Tie as tie
+use Rattle.records.proofs.inspection.refused as the
 
-returns : tie.Need-returns
+returns : the.Tie.Need-returns
 unfolding currentRule mutationRule
 returns c = (refl, λ i. inspection (c .before .before .before .initial .ensures .value i) (c .before .initial2 .ensures .value i) Absent)
 
-pub refused-spec : {M : Type 1} → statement M
-refused-spec = tie.close (tie.spec free free returns)
+pub refused-spec : {M : Type 1} → the.Statement.statement M
+refused-spec = the.Tie.close (the.Tie.spec free free returns)

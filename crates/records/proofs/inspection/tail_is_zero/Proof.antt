@@ -1,20 +1,19 @@
 -- `tail_is_zero`: one test for each number of the list. Assumes nothing.
 use Rattle.octets.proofs.Tools.{eq-eqb, ne-eqb, free}
 use Rattle.octets.specs.Octets.{allZero}
-use Rattle.records.proofs.inspection.tail_is_zero.Statement.{statement}
-use Rattle.records.proofs.inspection.tail_is_zero.Tie as tie
+use Rattle.records.proofs.inspection.tail_is_zero as the
 
-returns : tie.Need-returns
+returns : the.Tie.Need-returns
 unfolding allZero
 returns c =
     let g = c .before .before in
     rw (← g .before .before .before .before .get-u64-le .ensures, ← g .before .before .before .get-u64-le2 .ensures, ← g .before .before .get-u64-le3 .ensures, ← g .before .get-u64-le4 .ensures, ← g .get-u64-le5 .ensures, eq-eqb _ _ (c .before .if1 .taken)) (c .four-zeros .ensures)
 
-returns-2 : tie.Need-returns-2
+returns-2 : the.Tie.Need-returns-2
 unfolding allZero
 returns-2 c =
     let g = c .before in
     rw (← g .before .before .before .before .get-u64-le .ensures, ← g .before .before .before .get-u64-le2 .ensures, ← g .before .before .get-u64-le3 .ensures, ← g .before .get-u64-le4 .ensures, ← g .get-u64-le5 .ensures, ne-eqb _ _ (c .if1 .left))
 
-pub tail-is-zero-spec : {M : Type 1} → statement M
-tail-is-zero-spec = tie.close (tie.spec free free free free free free returns returns-2)
+pub tail-is-zero-spec : {M : Type 1} → the.Statement.statement M
+tail-is-zero-spec = the.Tie.close (the.Tie.spec free free free free free free returns returns-2)

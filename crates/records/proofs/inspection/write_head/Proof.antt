@@ -1,10 +1,12 @@
 -- `write_head`: one store for each field, in the order of the layout. Assumes nothing.
 use Rattle.octets.proofs.Tools.{needs, free}
-use Rattle.records.proofs.inspection.write_head.Statement.{statement}
-use Rattle.records.proofs.inspection.write_head.Tie as tie
+use Rattle.records.proofs.inspection.write_head as the
 
-returns : tie.Need-returns
-returns c = cc
+returns : the.Tie.Need-returns
+returns c =
+    let p4 = c .before .before in let p3 = p4 .before .before .before .before in let p2 = p3 .before .before .before .before in
+    let p1 = p2 .before .before .before .before in
+    rw (p4 .put-u82 .ensures, p3 .put-u8 .ensures, p2 .put-u16-le .ensures, p1 .put-u32-be .ensures)
 
-pub write-head-spec : {M : Type 1} → statement M
-write-head-spec = tie.close (tie.spec free free free free (λ c. search needs) returns)
+pub write-head-spec : {M : Type 1} → the.Statement.statement M
+write-head-spec = the.Tie.close (the.Tie.spec free free free free (λ c. search needs) returns)

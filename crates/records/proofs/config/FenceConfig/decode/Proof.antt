@@ -1,14 +1,12 @@
 -- `decode`: the length first, then the fields, whose numbers are those of the layout. Assumes nothing.
 use Rattle.octets.proofs.Tools.{free}
 use Rattle.octets.proofs.CodecLaws.{decode-length, decode-read}
-use Rattle.records.specs.Config.{configCodec}
-use Rattle.records.proofs.config.FenceConfig.decode.Statement.{statement}
-use Rattle.records.proofs.config.FenceConfig.decode.Tie as tie
+use Rattle.records.proofs.config.FenceConfig.decode as the
 
-returns : tie.Need-returns
-returns c = decode-length configCodec (c .before .if1 .taken) (c .refused .ensures)
+returns : the.Tie.Need-returns
+returns c = decode-length (c .before .if1 .taken) (c .refused .ensures)
 
-returns-2 : tie.Need-returns-2
+returns-2 : the.Tie.Need-returns-2
 returns-2 c =
     let f9 = c .before in
     let f8 = f9 .before in
@@ -20,7 +18,7 @@ returns-2 c =
     let f2 = f3 .before in
     let f1 = f2 .before in
     let f0 = f1 .before in
-    decode-read configCodec (f0 .before .if1 .left) (rw (
+    decode-read (f0 .before .if1 .left) (rw (
       ← f0 .get-u32-be .ensures,
       ← f1 .get-u16-le .ensures,
       ← f2 .get-u8 .ensures,
@@ -33,5 +31,5 @@ returns-2 c =
       ← f9 .get-u64-le3 .ensures,
     ) (c .from-fields .ensures))
 
-pub decode-spec : {M : Type 1} → statement M
-decode-spec = tie.close (tie.spec free returns free free free free free free free free free free free returns-2)
+pub decode-spec : {M : Type 1} → the.Statement.statement M
+decode-spec = the.Tie.close (the.Tie.spec free returns free free free free free free free free free free free returns-2)

@@ -1,14 +1,13 @@
 -- `is_sound`: the rule on the record's own numbers. Assumes nothing.
 use Rattle.octets.proofs.Tools.{needs, not-true, not-false, free}
-use Rattle.records.proofs.config.FenceConfig.is_sound.Statement.{statement}
-use Rattle.records.proofs.config.FenceConfig.is_sound.Tie as tie
+use Rattle.records.proofs.config.FenceConfig.is_sound as the
 
-returns : tie.Need-returns
+returns : the.Tie.Need-returns
 returns c =
     let f = c .before .frame-rule in
     simp (← f .ensures, not-true (f .result) (c .if1 .taken))
 
-returns-2 : tie.Need-returns-2
+returns-2 : the.Tie.Need-returns-2
 returns-2 c =
     let e = c .before in
     let second = e .before in
@@ -17,5 +16,5 @@ returns-2 c =
     let f = frame .before .frame-rule in
     simp (← f .ensures, not-false (f .result) (frame .if1 .left), ← first .get-u64-le .ensures, ← second .get-u64-le2 .ensures, ← e .endpoint-of .ensures) (c .is-sound .ensures)
 
-pub is-sound-spec : {M : Type 1} → statement M
-is-sound-spec = tie.close (tie.spec free returns (λ c. search needs) free (λ c. search needs) free free free returns-2)
+pub is-sound-spec : {M : Type 1} → the.Statement.statement M
+is-sound-spec = the.Tie.close (the.Tie.spec free returns (λ c. search needs) free (λ c. search needs) free free free returns-2)

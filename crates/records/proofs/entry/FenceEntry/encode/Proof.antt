@@ -1,15 +1,17 @@
 -- `encode`: its answers are those of every encoder; its stores are one for each field, in the order of the layout. Assumes nothing.
-use Rattle.octets.proofs.Tools.{refl, needs, free}
-use Rattle.octets.proofs.CodecLaws.{encode-refused, encode-written}
-use Rattle.records.specs.Entry.{entryCodec}
-use Rattle.records.proofs.entry.FenceEntry.encode.Statement.{statement}
-use Rattle.records.proofs.entry.FenceEntry.encode.Tie as tie
+use Rattle.octets.proofs.CodecLaws.{refl, free, needs, encode-refused, encode-written}
+use Rattle.records.proofs.entry.FenceEntry.encode as the
 
-returns : tie.Need-returns
-returns c = encode-refused entryCodec (cc) (c .if1 .taken)
+returns : the.Tie.Need-returns
+returns c =
+    let p5 = c .before .before in let p4 = p5 .before .before .before .before in let p3 = p4 .before .before .before .before in
+    let p2 = p3 .before .before .before .before in let p1 = p2 .before .before .before .before .before in
+    let tested = p1 .before .before .before .before .before in
+    let n = tested .before in
+    encode-written (n .before .is-sound .ensures) (n .encode-number .ensures) (tested .if1 .taken) refl (rw (p5 .put-u64-le3 .ensures, p4 .put-u64-le2 .ensures, p3 .put-u64-le .ensures, p2 .put-u32-le2 .ensures, p1 .put-u32-le .ensures, p2 .before .control .ensures))
 
-returns-2 : tie.Need-returns-2
-returns-2 c = encode-written entryCodec (cc) refl (cc)
+returns-2 : the.Tie.Need-returns-2
+returns-2 c = encode-refused (c .before .before .is-sound .ensures) (c .before .encode-number .ensures) (c .if1 .left)
 
-pub encode-spec : {M : Type 1} → statement M
-encode-spec = tie.close (tie.spec free free returns free free free free free free (λ c. search needs) returns-2)
+pub encode-spec : {M : Type 1} → the.Statement.statement M
+encode-spec = the.Tie.close (the.Tie.spec free free free free free free free free (λ c. search needs) returns returns-2)

@@ -1,16 +1,15 @@
 -- `encode`: its answers are those of every encoder. Assumes nothing.
-use Rattle.octets.proofs.Tools.{needs, free}
-use Rattle.octets.proofs.CodecLaws.{encode-refused, encode-written}
-use Rattle.records.specs.Inspection.{inspectionCodec}
+use Rattle.octets.proofs.CodecLaws.{free, needs, encode-refused, encode-written}
 use Rattle.records.proofs.InspectionLaws.{numbers-counted}
-use Rattle.records.proofs.inspection.FenceInspection.encode.Statement.{statement}
-use Rattle.records.proofs.inspection.FenceInspection.encode.Tie as tie
+use Rattle.records.proofs.inspection.FenceInspection.encode as the
 
-returns : tie.Need-returns
-returns c = encode-refused inspectionCodec (cc) (c .if1 .taken)
+returns : the.Tie.Need-returns
+returns c =
+    let put = c .before .before in let tested = put .before .before in let n = tested .before in
+    encode-written (n .before .is-sound .ensures) (n .encode-number .ensures) (tested .if1 .taken) (numbers-counted (n .before .before .before .args .self)) (put .write .ensures)
 
-returns-2 : tie.Need-returns-2
-returns-2 c = encode-written inspectionCodec (cc) (numbers-counted (c .before .before .before .before .before .before .before .before .args .self)) (c .before .before .write .ensures)
+returns-2 : the.Tie.Need-returns-2
+returns-2 c = encode-refused (c .before .before .is-sound .ensures) (c .before .encode-number .ensures) (c .if1 .left)
 
-pub encode-spec : {M : Type 1} → statement M
-encode-spec = tie.close (tie.spec free free returns free (λ c. search needs) returns-2)
+pub encode-spec : {M : Type 1} → the.Statement.statement M
+encode-spec = the.Tie.close (the.Tie.spec free free free (λ c. search needs) returns returns-2)

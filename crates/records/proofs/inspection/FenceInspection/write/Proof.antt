@@ -1,10 +1,9 @@
 -- `write`: the parts one after the other are the layout. Assumes nothing.
 use Rattle.octets.proofs.Tools.{sym, needs, free}
 use Rattle.records.proofs.InspectionLaws.{inspection-puts}
-use Rattle.records.proofs.inspection.FenceInspection.write.Statement.{statement}
-use Rattle.records.proofs.inspection.FenceInspection.write.Tie as tie
+use Rattle.records.proofs.inspection.FenceInspection.write as the
 
-returns : tie.Need-returns
+returns : the.Tie.Need-returns
 returns c =
     let tail = c .before .before in
     let part = tail .before .before .before .before in
@@ -14,5 +13,5 @@ returns c =
     rw (tail .write-tail .ensures, part .write .ensures, front .write-front .ensures, head .write-head .ensures, head .before .flag .ensures, front .before .control .ensures)
     (sym (inspection-puts (start .args .self) (start .args .out .now)))
 
-pub write-spec : {M : Type 1} → statement M
-write-spec = tie.close (tie.spec free free free free free free (λ c. search needs) returns)
+pub write-spec : {M : Type 1} → the.Statement.statement M
+write-spec = the.Tie.close (the.Tie.spec free free free free free free (λ c. search needs) returns)

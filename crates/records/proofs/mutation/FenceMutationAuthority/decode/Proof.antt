@@ -1,15 +1,11 @@
 -- `decode`: the length first, then the fields, whose numbers are those of the layout. Assumes nothing.
-use Rattle.octets.proofs.Tools.{free}
-use Rattle.octets.proofs.CodecLaws.{built-of, decode-length, decode-read}
-use Rattle.records.specs.Mutation.{mutationCodec}
-use Rattle.records.proofs.mutation.FenceMutationAuthority.decode.Statement.{statement}
-use Rattle.records.proofs.mutation.FenceMutationAuthority.decode.Tie as tie
+use Rattle.octets.proofs.CodecLaws.{refl, free, decode-length, decode-read}
+use Rattle.records.proofs.mutation.FenceMutationAuthority.decode as the
 
-returns : tie.Need-returns
-returns c = decode-length mutationCodec (c .before .if1 .taken) (c .answer .ensures)
+returns-2 : the.Tie.Need-returns-2
+returns-2 c =
+    let g2 = c .before in let g1 = g2 .before in
+    decode-read (g1 .before .if1 .left) (rw (← g1 .get-u64-le .ensures, ← g2 .get-u64-le2 .ensures) (c .new .ensures))
 
-returns-2 : tie.Need-returns-2
-returns-2 c = decode-read mutationCodec (cc) (built-of mutationCodec (cc) (c .new .ensures))
-
-pub decode-spec : {M : Type 1} → statement M
-decode-spec = tie.close (tie.spec free returns free free free returns-2)
+pub decode-spec : {M : Type 1} → the.Statement.statement M
+decode-spec = the.Tie.close (the.Tie.spec (λ c. decode-length (c .if1 .taken) (refl, refl)) free free free returns-2)

@@ -1,15 +1,15 @@
 -- `encode`: its answers are those of every encoder; its stores are one for each field, in the order of the layout. Assumes nothing.
-use Rattle.octets.proofs.Tools.{refl, needs, free}
-use Rattle.octets.proofs.CodecLaws.{encode-refused, encode-written}
-use Rattle.records.specs.Mutation.{mutationCodec}
-use Rattle.records.proofs.mutation.FenceMutationAuthority.encode.Statement.{statement}
-use Rattle.records.proofs.mutation.FenceMutationAuthority.encode.Tie as tie
+use Rattle.octets.proofs.CodecLaws.{refl, free, needs, encode-refused, encode-written}
+use Rattle.records.proofs.mutation.FenceMutationAuthority.encode as the
 
-returns : tie.Need-returns
-returns c = encode-refused mutationCodec (cc) (c .if1 .taken)
+returns : the.Tie.Need-returns
+returns c =
+    let p2 = c .before .before in let p1 = p2 .before .before .before .before in let tested = p1 .before .before in
+    let n = tested .before in
+    encode-written (n .before .is-sound .ensures) (n .encode-number .ensures) (tested .if1 .taken) refl (rw (p2 .put-u64-le2 .ensures, p1 .put-u64-le .ensures))
 
-returns-2 : tie.Need-returns-2
-returns-2 c = encode-written mutationCodec (cc) refl (cc)
+returns-2 : the.Tie.Need-returns-2
+returns-2 c = encode-refused (c .before .before .is-sound .ensures) (c .before .encode-number .ensures) (c .if1 .left)
 
-pub encode-spec : {M : Type 1} → statement M
-encode-spec = tie.close (tie.spec free free returns free free (λ c. search needs) returns-2)
+pub encode-spec : {M : Type 1} → the.Statement.statement M
+encode-spec = the.Tie.close (the.Tie.spec free free free free (λ c. search needs) returns returns-2)

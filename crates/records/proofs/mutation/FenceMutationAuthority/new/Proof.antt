@@ -1,15 +1,10 @@
--- `new`: the rule decides, and accepted numbers give their record. Assumes nothing.
-use Rattle.octets.proofs.Tools.{free}
-use Rattle.octets.proofs.CodecLaws.{built-done, built-refused}
-use Rattle.records.specs.Mutation.{mutationCodec}
-use Rattle.records.proofs.mutation.FenceMutationAuthority.new.Statement.{statement}
-use Rattle.records.proofs.mutation.FenceMutationAuthority.new.Tie as tie
+-- `new`: the record is answered where it is sound. Assumes nothing.
+use Rattle.octets.proofs.CodecLaws.{refl, free, built-done, built-refused}
+use Rattle.records.proofs.mutation.FenceMutationAuthority.new as the
 
-returns : tie.Need-returns
-returns c = built-done mutationCodec (cc) (c .answer .ensures)
-
-returns-2 : tie.Need-returns-2
-returns-2 c = built-refused mutationCodec (cc) (c .answer2 .ensures)
-
-pub new-spec : {M : Type 1} → statement M
-new-spec = tie.close (tie.spec free free free returns returns-2)
+pub new-spec : {M : Type 1} → the.Statement.statement M
+new-spec =
+    the.Tie.close
+    (the.Tie.spec free
+    (λ c. built-done (c .before .is-sound .ensures) (c .if1 .taken) (refl, refl))
+    (λ c. built-refused (c .before .is-sound .ensures) (c .if1 .left) (refl, refl)))

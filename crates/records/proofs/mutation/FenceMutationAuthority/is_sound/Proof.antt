@@ -1,0 +1,19 @@
+-- `is_sound`: the tests are the definition's, in its order. Assumes nothing.
+use Rattle.octets.proofs.Tools.{needs, eq-eqb, ne-eqb, lt-ltb, le-ltb}
+use Rattle.records.specs.Mutation.{mutationRule}
+use Rattle.records.proofs.mutation.FenceMutationAuthority.is_sound as the
+
+returns : the.Tie.Need-returns
+unfolding mutationRule
+returns c = simp (eq-eqb _ _ (c .if1 .taken))
+
+returns-2 : the.Tie.Need-returns-2
+unfolding mutationRule
+returns-2 c = simp (ne-eqb _ _ (c .before .if1 .left), lt-ltb _ _ (c .if2 .taken))
+
+returns-3 : the.Tie.Need-returns-3
+unfolding mutationRule
+returns-3 c = simp (ne-eqb _ _ (c .before .if1 .left), le-ltb _ _ (c .if2 .left))
+
+pub is-sound-spec : {M : Type 1} → the.Statement.statement M
+is-sound-spec = the.Tie.close (the.Tie.spec (λ c. search needs) returns returns-2 returns-3)
