@@ -27,8 +27,8 @@ fn version_rule(version: u16, capacity: u32) -> bool
 fn frame_rule(mark: u32, version: u16, zero: u8, zeros: u16, capacity: u32, root: u64) -> bool
     ensures { λ r. ⌜ r ≡ frameRule mark version zero zeros capacity root ⌝ }
 {
-    mark == FenceConfig::MARK
-        && (zero == 0 && (zeros == 0 && (root != 0 && version_rule(version, capacity))))
+    (mark == FenceConfig::MARK)
+        & ((zero == 0) & ((zeros == 0) & ((root != 0) & version_rule(version, capacity))))
 }
 
 // A refusal.

@@ -19,19 +19,7 @@ pub(crate) struct PartAnswer {
 pub(crate) fn four_zeros(a: u64, b: u64, c: u64, d: u64) -> bool
     ensures { λ r. ⌜ r ≡ allZero (a ∷ b ∷ c ∷ d ∷ []) ⌝ }
 {
-    if a != 0 {
-        return false;
-    }
-    if b != 0 {
-        return false;
-    }
-    if c != 0 {
-        return false;
-    }
-    if d != 0 {
-        return false;
-    }
-    true
+    (a == 0) & ((b == 0) & ((c == 0) & (d == 0)))
 }
 
 fn absent(number: u32) -> PartAnswer

@@ -47,7 +47,7 @@ fn head_is_right(s: &[u8]) -> bool
     let mark = octets::get_u32_be(s, 0);
     let version = octets::get_u16_le(s, 4);
     let pad = octets::get_u8(s, 7);
-    mark == FenceInspection::MARK && (version == FenceInspection::VERSION && pad == 0)
+    (mark == FenceInspection::MARK) & ((version == FenceInspection::VERSION) & (pad == 0))
 }
 
 // The forty bytes at the end.
@@ -59,7 +59,7 @@ fn tail_is_zero(s: &[u8]) -> bool
     let c = octets::get_u64_le(s, 104);
     let d = octets::get_u64_le(s, 112);
     let e = octets::get_u64_le(s, 120);
-    a == 0 && crate::inspected::four_zeros(b, c, d, e)
+    (a == 0) & crate::inspected::four_zeros(b, c, d, e)
 }
 
 fn current_part(s: &[u8]) -> CurrentAnswer

@@ -52,9 +52,7 @@ impl FenceCookieKey {
     pub fn is_sound(self) -> bool
         ensures { λ r. ⌜ r ≡ sound keyCodec self ⌝ }
     {
-        let cookie = self.socket_cookie;
-        let token = self.durable_fence_token;
-        (cookie.0 != 0) & (token.0 != 0)
+        (self.socket_cookie.0 != 0) & (self.durable_fence_token.0 != 0)
     }
 
     pub fn decode(s: &[u8]) -> KeyAnswer
@@ -74,10 +72,8 @@ impl FenceCookieKey {
     {
         let number = octets::encode_number(self.is_sound(), FenceCookieKey::LEN, out.len());
         if number == 0 {
-            let cookie = self.socket_cookie;
-            let token = self.durable_fence_token;
-            octets::put_u64_le(out, 0, cookie.0);
-            octets::put_u64_le(out, 8, token.0);
+            octets::put_u64_le(out, 0, self.socket_cookie.0);
+            octets::put_u64_le(out, 8, self.durable_fence_token.0);
         }
         number
     }

@@ -4,7 +4,7 @@ use Rattle.records.proofs.key.FenceCookieKey.encode as the
 
 returns : the.Tie.Need-returns
 returns c =
-    let p2 = c .before .before in let p1 = p2 .before .before .before .before in let tested = p1 .before .before .before .before in
+    let p2 = c .before .before in let p1 = p2 .before .before .before .before in let tested = p1 .before .before in
     let n = tested .before in
     encode-written (n .before .is-sound .ensures) (n .encode-number .ensures) (tested .if1 .taken) refl (rw (p2 .put-u64-le2 .ensures, p1 .put-u64-le .ensures))
 
