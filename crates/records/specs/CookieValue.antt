@@ -6,7 +6,7 @@ use Rattle.records.specs.declared.entry.FenceEntryState.the-variants.{In
 use Rattle.records.specs.declared.entry.FenceEntry.{FenceEntry}
 use Rattle.records.specs.declared.key.FenceCookieKey.{FenceCookieKey}
 use Rattle.records.specs.declared.cookie_value.FenceCookieValue.{FenceCookieValue}
-use Rattle.records.specs.Key.{key, keyCodec}
+use Rattle.records.specs.Key.{keyCodec}
 use Rattle.records.specs.Entry.{controlOf, stateFrom, stateRule, entry, entryCodec}
 
 -- of zeros, control, cookie, token, deadline, epoch
@@ -33,7 +33,7 @@ cookieValueCodec = record {
 
 -- the key and the entry of a value: each with the token
 abbrev pub keyOf : FenceCookieValue → FenceCookieKey
-keyOf v = key (v .«socket_cookie» .0) (v .«durable_fence_token» .0)
+keyOf v = record { «socket_cookie» = v .«socket_cookie»; «durable_fence_token» = v .«durable_fence_token» }
 
 abbrev pub entryOf : FenceCookieValue → FenceEntry
 entryOf v = entry (v .state) (v .«durable_fence_token» .0) (v .«deadline_boot_ns» .0) (v .«control_epoch» .0)

@@ -2,9 +2,6 @@
 use Rattle.records.specs.Words.{ℕ, _+_, Bool, _&&_, _||_, [], _∷_, getD, eqb, ltb, little, Codec}
 use Rattle.records.specs.declared.mutation.FenceMutationAuthority.{FenceMutationAuthority}
 
-abbrev pub mutation : ℕ → ℕ → FenceMutationAuthority
-mutation g c = record { generation = g; «in_flight_claim» = c }
-
 -- the claim is 0, or generation + 1 with a generation below 2^64 - 1
 unfoldable pub mutationRule : ℕ → ℕ → Bool
 mutationRule g c = eqb c 0 || (ltb g 0xffff_ffff_ffff_ffff && eqb c (g + 1))
@@ -13,7 +10,7 @@ abbrev pub mutationCodec : Codec FenceMutationAuthority
 mutationCodec = record {
   layout = little 8 ∷ little 8 ∷ [];
   ok = λ vs. mutationRule (getD vs 0 0) (getD vs 1 0);
-  of = λ vs. mutation (getD vs 0 0) (getD vs 1 0);
+  of = λ vs. record { generation = getD vs 0 0; «in_flight_claim» = getD vs 1 0 };
   fields = λ v. v .generation ∷ v .«in_flight_claim» ∷ [];
-  blank = mutation 0 0;
+  blank = record { generation = 0; «in_flight_claim» = 0 };
 }

@@ -2,14 +2,8 @@
 use Rattle.octets.proofs.CodecLaws.{refl, free, needs, encode-refused, encode-written}
 use Rattle.records.proofs.mutation.FenceMutationAuthority.encode as the
 
-returns : the.Tie.Need-returns
-returns c =
-    let p2 = c .before .before in let p1 = p2 .before .before .before .before in let tested = p1 .before .before in
-    let n = tested .before in
-    encode-written (n .before .is-sound .ensures) (n .encode-number .ensures) (tested .if1 .taken) refl (rw (p2 .put-u64-le2 .ensures, p1 .put-u64-le .ensures))
-
-returns-2 : the.Tie.Need-returns-2
-returns-2 c = encode-refused (c .before .before .is-sound .ensures) (c .before .encode-number .ensures) (c .if1 .left)
-
 pub encode-spec : {M : Type 1} → the.Statement.statement M
-encode-spec = the.Tie.close (the.Tie.spec free free free free (λ c. search needs) returns returns-2)
+encode-spec = the.Tie.close (the.Tie.spec free free free free (λ c. search needs) (λ c.
+    let p2 = c .before .before in let p1 = p2 .before .before .before .before in let tested = p1 .before .before in let n = tested .before in
+    encode-written (n .before .is-sound .ensures) (n .encode-number .ensures) (tested .if1 .taken) refl (rw (p2 .put-u64-le2 .ensures, p1 .put-u64-le .ensures)))
+    (λ c. encode-refused (c .before .before .is-sound .ensures) (c .before .encode-number .ensures) (c .if1 .left)))
