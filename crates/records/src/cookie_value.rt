@@ -127,11 +127,14 @@ impl FenceCookieValue {
         ensures { λ r. ⌜ r ≡ sound cookieValueCodec self ⌝ }
     {
         let state = self.state;
-        let cookie = self.socket_cookie;
-        let token = self.durable_fence_token;
-        let deadline = self.deadline_boot_ns;
-        let epoch = self.control_epoch;
-        rule(0, state.control(), cookie.0, token.0, deadline.0, epoch.0)
+        rule(
+            0,
+            state.control(),
+            self.socket_cookie.0,
+            self.durable_fence_token.0,
+            self.deadline_boot_ns.0,
+            self.control_epoch.0,
+        )
     }
 
     pub fn decode(s: &[u8]) -> CookieValueAnswer
@@ -155,16 +158,12 @@ impl FenceCookieValue {
         let number = octets::encode_number(self.is_sound(), FenceCookieValue::LEN, out.len());
         if number == 0 {
             let state = self.state;
-            let cookie = self.socket_cookie;
-            let token = self.durable_fence_token;
-            let deadline = self.deadline_boot_ns;
-            let epoch = self.control_epoch;
             octets::put_u32_le(out, 0, 0);
             octets::put_u32_le(out, 4, state.control());
-            octets::put_u64_le(out, 8, cookie.0);
-            octets::put_u64_le(out, 16, token.0);
-            octets::put_u64_le(out, 24, deadline.0);
-            octets::put_u64_le(out, 32, epoch.0);
+            octets::put_u64_le(out, 8, self.socket_cookie.0);
+            octets::put_u64_le(out, 16, self.durable_fence_token.0);
+            octets::put_u64_le(out, 24, self.deadline_boot_ns.0);
+            octets::put_u64_le(out, 32, self.control_epoch.0);
         }
         number
     }

@@ -128,16 +128,14 @@ impl CurrentFenceToken {
     pub fn is_lifecycle_open(self) -> bool
         ensures { λ r. ⌜ r ≡ lifecycleOpen self ⌝ }
     {
-        let token = self.durable_fence_token;
-        (token.0 != 0) & !self.retirement_closed
+        (self.durable_fence_token.0 != 0) & !self.retirement_closed
     }
 
     // Whether the token closes registration for good.
     pub fn is_retirement_closed(self) -> bool
         ensures { λ r. ⌜ r ≡ retirementClosed self ⌝ }
     {
-        let token = self.durable_fence_token;
-        (token.0 != 0) & self.retirement_closed
+        (self.durable_fence_token.0 != 0) & self.retirement_closed
     }
 
     pub(crate) fn control(self) -> u32
@@ -156,9 +154,12 @@ impl CurrentFenceToken {
     pub fn is_sound(self) -> bool
         ensures { λ r. ⌜ r ≡ sound currentCodec self ⌝ }
     {
-        let token = self.durable_fence_token;
-        let cookie = self.registered_socket_cookie;
-        rule(0, self.control(), token.0, cookie.0)
+        rule(
+            0,
+            self.control(),
+            self.durable_fence_token.0,
+            self.registered_socket_cookie.0,
+        )
     }
 
     pub fn decode(s: &[u8]) -> CurrentAnswer
@@ -179,12 +180,10 @@ impl CurrentFenceToken {
     {
         let number = octets::encode_number(self.is_sound(), CurrentFenceToken::LEN, out.len());
         if number == 0 {
-            let token = self.durable_fence_token;
-            let cookie = self.registered_socket_cookie;
             octets::put_u32_le(out, 0, 0);
             octets::put_u32_le(out, 4, self.control());
-            octets::put_u64_le(out, 8, token.0);
-            octets::put_u64_le(out, 16, cookie.0);
+            octets::put_u64_le(out, 8, self.durable_fence_token.0);
+            octets::put_u64_le(out, 16, self.registered_socket_cookie.0);
         }
         number
     }

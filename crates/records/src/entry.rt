@@ -223,10 +223,13 @@ impl FenceEntry {
         ensures { λ r. ⌜ r ≡ sound entryCodec self ⌝ }
     {
         let state = self.state;
-        let token = self.durable_fence_token;
-        let deadline = self.deadline_boot_ns;
-        let epoch = self.control_epoch;
-        rule(0, state.control(), token.0, deadline.0, epoch.0)
+        rule(
+            0,
+            state.control(),
+            self.durable_fence_token.0,
+            self.deadline_boot_ns.0,
+            self.control_epoch.0,
+        )
     }
 
     pub fn decode(s: &[u8]) -> EntryAnswer
@@ -249,14 +252,11 @@ impl FenceEntry {
         let number = octets::encode_number(self.is_sound(), FenceEntry::LEN, out.len());
         if number == 0 {
             let state = self.state;
-            let token = self.durable_fence_token;
-            let deadline = self.deadline_boot_ns;
-            let epoch = self.control_epoch;
             octets::put_u32_le(out, 0, 0);
             octets::put_u32_le(out, 4, state.control());
-            octets::put_u64_le(out, 8, token.0);
-            octets::put_u64_le(out, 16, deadline.0);
-            octets::put_u64_le(out, 24, epoch.0);
+            octets::put_u64_le(out, 8, self.durable_fence_token.0);
+            octets::put_u64_le(out, 16, self.deadline_boot_ns.0);
+            octets::put_u64_le(out, 24, self.control_epoch.0);
         }
         number
     }

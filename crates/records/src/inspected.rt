@@ -137,11 +137,14 @@ impl InspectedEntry {
             InspectedEntry::Absent => write_part(out, 0, 0, 0, 0, 0),
             InspectedEntry::Present(value) => {
                 let state = value.state;
-                let cookie = value.socket_cookie;
-                let token = value.durable_fence_token;
-                let deadline = value.deadline_boot_ns;
-                let epoch = value.control_epoch;
-                write_part(out, state.control(), cookie.0, token.0, deadline.0, epoch.0)
+                write_part(
+                    out,
+                    state.control(),
+                    value.socket_cookie.0,
+                    value.durable_fence_token.0,
+                    value.deadline_boot_ns.0,
+                    value.control_epoch.0,
+                )
             }
         }
     }

@@ -5,6 +5,6 @@ use Rattle.records.proofs.current.CurrentFenceToken.encode as the
 pub encode-spec : {M : Type 1} → the.Statement.statement M
 encode-spec = the.Tie.close (the.Tie.spec free free free free free free free (λ c. search needs) (λ c.
     let p4 = c .before .before in let p3 = p4 .before .before .before .before in let p2 = p3 .before .before .before .before in
-    let p1 = p2 .before .before .before .before .before in let tested = p1 .before .before .before .before in let n = tested .before in
+    let p1 = p2 .before .before .before .before .before in let tested = p1 .before .before in let n = tested .before in
     encode-written (n .before .is-sound .ensures) (n .encode-number .ensures) (tested .if1 .taken) refl (rw (p4 .put-u64-le2 .ensures, p3 .put-u64-le .ensures, p2 .put-u32-le2 .ensures, p1 .put-u32-le .ensures, p2 .before .control .ensures)))
     (λ c. encode-refused (c .before .before .is-sound .ensures) (c .before .encode-number .ensures) (c .if1 .left)))

@@ -8,7 +8,7 @@ returns c = rw (c .before .before .before .before .enum-told .given .1) (c .befo
 returns-2 : the.Tie.Need-returns-2
 returns-2 c =
     let control = c .before .before .before in
-    let told = control .before .before .before .before .before .before .before .self .given in
+    let told = control .before .before .before .self .given in
     rw (told .1, ← control .control .ensures) (c .before .before .write-part2 .ensures)
 
 pub write-spec : {M : Type 1} → the.Statement.statement M
