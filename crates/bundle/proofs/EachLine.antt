@@ -1,7 +1,7 @@
 -- A listing has one line for each packet, and a last one with their number: neither a decimal nor a name has a newline, so each line has
 -- the one at its end. And a number is read back from its decimals. Each by induction. Assumes nothing.
-use Rattle.octets.specs.Words.{ℕ, zero, suc, _+_, _-_, _*_, _/_, _%_, _^_, _<_, _≤_, _≡_, Bool, true, false, cond, List, [], _∷_, _++_, length, eqb, ltb}
-use Rattle.octets.proofs.Tools.{refl, sym, ap, _∙_, arith, ne-eqb, lt-ltb, le-ltb, ltb-true, ltb-false}
+use Rattle.octets.specs.Words.{ℕ, zero, suc, _+_, _-_, _*_, _/_, _%_, _^_, _<_, _≡_, Bool, true, false, cond, List, [], _∷_, _++_, length, eqb, ltb}
+use Rattle.octets.proofs.Tools.{refl, sym, ap, _∙_, arith, ne-eqb, le-ltb}
 use mathlib.Core.List.{append-assoc}
 use native.Mathlib.Nat.{pow-suc, add-zero}
 use Rattle.verdict.specs.Verdict.{slotOf}
@@ -10,8 +10,8 @@ use Rattle.verdict.specs.declared.FenceVerdict.the-variants.{PassUnrelated, All
 use Rattle.gate.specs.Gate.{Call, answering, headersOf}
 use Rattle.bundle.specs.Feed.{Ending, ended, bad}
 use Rattle.bundle.specs.Frames.{bundleOf}
-use Rattle.bundle.specs.Text.{ascii, decimalIn, decimal}
-use Rattle.bundle.specs.Listing.{Line, nameOf, slotText, line, lastLine, linesBy, sheet, verdictLine, longest, listing}
+use Rattle.bundle.specs.Text.{ascii, decimalIn}
+use Rattle.bundle.specs.Listing.{Line, nameOf, slotText, line, lastLine, linesBy, verdictLine, longest, listing}
 use Rattle.bundle.specs.Promises.{callLines, LinesThenLast, newlines, OneLineEach, spelled, ReadsBack}
 
 -- ---- the lines of the calls, and the last

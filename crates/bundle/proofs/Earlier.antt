@@ -1,7 +1,7 @@
 -- What comes later in a bundle changes nothing of what came before. A whole frame of a bundle is the same frame of every longer one,
 -- and so are its bytes, so the two readings take the same steps as far as the shorter one goes. By induction on what is left.
 -- Assumes nothing.
-use Rattle.octets.specs.Words.{ℕ, zero, suc, _+_, _-_, _<_, _≤_, _≡_, Bool, true, false, cond, List, [], _∷_, _++_, length, take, ltb, leb}
+use Rattle.octets.specs.Words.{ℕ, zero, suc, _+_, _-_, _<_, _≤_, _≡_, Bool, true, false, cond, List, [], _∷_, _++_, length, ltb, leb}
 use Rattle.octets.proofs.Tools.{refl, sym, ap, _∙_, arith, lt-leb, le-ltb, ltb-false, leb-false}
 use mathlib.Core.List.{append-assoc}
 use lib.ListN.{length-append, List·getD-append}

@@ -9,7 +9,7 @@ use Rattle.octets.proofs.OctetsLaws.{length-octets, octets-append, octets-drop,
 use Rattle.records.proofs.AddressLaws.{stored}
 use Rattle.gate.specs.Gate.{Answer, gateOf}
 use Rattle.gate.specs.declared.Socket.{Socket}
-use Rattle.bundle.specs.Feed.{Feed, Step, onward, Less}
+use Rattle.bundle.specs.Feed.{onward, Less, Falls}
 use Rattle.bundle.specs.Frames.{lengthAt, kindAt, past, exactly, frameOf, frameAt, State, Place, socketOf, callOf, stepOf, frameStep, leftAt, feedAt}
 use Rattle.bundle.specs.Steps.{held}
 use Rattle.bundle.specs.declared.frames.Frame.{Frame}
@@ -72,9 +72,13 @@ less s at st (frame.Packet n) h = omega arith
 less s at st frame.End h = tt
 less s at st frame.Bad h = tt
 
+-- so a bundle's reader may be run
+pub frames-fall : (s : List ℕ) → Falls (frameStep s) (leftAt s)
+frames-fall s p = less s (p .at) (p .state) (frameAt s (p .at)) (left-size s (p .at))
+
 pub feed-step : (s : List ℕ) (p : Place) → feedAt s p ≡ onward (feedAt s) (frameStep s p)
 unfolding feedAt
-feed-step s p = run-step (frameStep s) (leftAt s) (λ a. less s (a .at) (a .state) (frameAt s (a .at)) (left-size s (a .at))) p
+feed-step s p = run-step (frameStep s) (leftAt s) (frames-fall s) p
 
 pub feed-at : (s : List ℕ) (p : Place) (x : Frame) → frameAt s (p .at) ≡ x → feedAt s p ≡ onward (feedAt s) (stepOf s (p .at) (p .state) x)
 feed-at s p x e = feed-step s p ∙ rw e

@@ -1,6 +1,6 @@
 -- Isolation, carried from the gate to the listing: a line prints what the gate answers and nothing else of the call. Assumes nothing.
 use Rattle.octets.specs.Words.{ℕ, _+_, _≡_, List, [], _∷_, _++_, length}
-use Rattle.octets.proofs.Tools.{refl, sym, ap, _∙_, le-ltb}
+use Rattle.octets.proofs.Tools.{refl, ap, _∙_, le-ltb}
 use Rattle.gate.specs.Gate.{Call, gateOf}
 use Rattle.gate.proofs.IsolationLaw.{isolated-rule, isolated}
 use Rattle.bundle.specs.Feed.{Ending}

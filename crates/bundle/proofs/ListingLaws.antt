@@ -7,7 +7,7 @@ use native.Mathlib.Nat.{zero-add}
 use Rattle.octets.specs.Octets.{put}
 use Rattle.octets.proofs.OctetsLaws.{put-append, put-in}
 use Rattle.verdict.proofs.Unique.{slot-injective}
-use Rattle.gate.specs.Gate.{Call, answering, headersOf, gateOf}
+use Rattle.gate.specs.Gate.{Call, answering, gateOf}
 use Rattle.gate.specs.Gate as gate
 use Rattle.gate.specs.declared.GateAnswer.{GateAnswer}
 use Rattle.bundle.specs.Feed.{Feed, ended, bad, skip, onward}
@@ -162,8 +162,12 @@ line-is i a c e =
     let v : a .verdict ≡ answering c .verdict = slot-injective (a .verdict) (answering c .verdict) (ap (λ r. r .slot) e) in
     λ j. line i (v j) (e j .headers)
 
-pub written-as : (i : ℕ) (a : GateAnswer) (c : Call) {at r : ℕ} {d d′ : List ℕ} → gate.answerOf a ≡ gateOf c → Wrote d at (line i (a .verdict) (a .headers)) d′ r → Wrote d at (verdictLine i c) d′ r
-written-as i a c e w = rw (line-is i a c e) at w
+-- a packet's line, from the gate's answer
+pub go-judged : {s t₀ t d₀ d d′ : List ℕ} {c : Cursor} {i w r : ℕ} (k : Going verdictLine s t₀ t d₀ d c i w) (n : ℕ) (a : GateAnswer) →
+    frameAt s (c .at) ≡ frame.Packet n → gate.answerOf a ≡ gateOf (callOf (stateOf s t c) (bodyAt s (c .at) n)) →
+    Wrote d w (line i (a .verdict) (a .headers)) d′ r → r ≤ w + 78 →
+    Going verdictLine s t₀ t d₀ d′ (record { at = past (c .at) n; gathered = c .gathered; config = c .config; current = c .current; call = c .call }) (i + 1) r
+go-judged {s} {t₀} {t} {d₀} {d} {d′} {c} {i} {w} {r} k n a e j p b = go-line k n e (rw (line-is i a (callOf (stateOf s t c) (bodyAt s (c .at) n)) j) at p) b
 
 -- ---- the whole listing, or none of it
 

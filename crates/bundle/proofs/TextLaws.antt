@@ -4,7 +4,7 @@ use Rattle.octets.specs.Words.{ℕ, zero, suc, _+_, _-_, _/_, _%_, _<_, _≤_, 
 use Rattle.octets.proofs.Tools.{refl, sym, ap, _∙_, arith, lt-ltb, le-ltb}
 use mathlib.Core.List.{append-assoc, append-nil}
 use lib.ListN.{length-append, length-set, length-drop, drop-of-length-le}
-use lib.Seq.{set-out, take-suc, take-suc-set, take-all, length-take-le, drop-set-lt, drop-cons, set-split, getD-set-same, append-snoc, drop-drop, take-at}
+use lib.Seq.{take-suc, take-suc-set, take-all, length-take-le, drop-set-lt, drop-cons, getD-set-same, append-snoc, drop-drop, take-at}
 use Rattle.octets.specs.Octets.{put}
 use Rattle.octets.proofs.OctetsLaws.{put-append, put-past, put-in, length-put}
 use Rattle.bundle.specs.Text.{decimalIn, decimal, Wrote}

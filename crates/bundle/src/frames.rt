@@ -6,7 +6,6 @@ use units::BootNs;
 use units::RootCgroupId;
 use units::SocketCookie;
 ghost use Rattle.octets.specs.Words.{_+_, _≤_, _<_, _≡_, _++_, length, take, replicate};
-ghost use Rattle.octets.specs.Octets.{octetsAt, put};
 ghost use Rattle.gate.specs.Gate.{gateOf, answerOf};
 ghost use Rattle.bundle.specs.Frames.{exactly, frameOf, frameAt, bodyAt, past, socketOf, callOf};
 ghost use Rattle.bundle.specs.Steps.{held, stateOf};

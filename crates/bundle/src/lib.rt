@@ -52,12 +52,8 @@ fn put_lines(out: &mut [u8], input: &[u8], table: &mut [u8]) -> usize
                 ordinal += 1;
                 cursor = cursor.past_packet(len);
             }
-            Frame::End => {
-                return lines::put_last(out, to, b"end ", ordinal);
-            }
-            Frame::Bad => {
-                return lines::put_last(out, to, b"bad ", at as u64);
-            }
+            Frame::End => return lines::put_last(out, to, b"end ", ordinal),
+            Frame::Bad => return lines::put_last(out, to, b"bad ", at as u64),
         }
     }
 }

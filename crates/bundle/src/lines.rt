@@ -4,7 +4,6 @@ use gate::GateAnswer;
 use verdict::CounterSlot;
 use verdict::FenceVerdict;
 ghost use Rattle.octets.specs.Words.{_+_, _≤_, _<_, _≡_, _++_, length};
-ghost use Rattle.verdict.specs.Verdict.{slotOf};
 ghost use Rattle.bundle.specs.Text.{Wrote, ascii, decimal};
 ghost use Rattle.bundle.specs.Listing.{nameOf, slotText, line};
 

@@ -1,10 +1,9 @@
 -- `put_lines`: the lines of the feed at the cursor are owed, and each frame that is read leaves less of the input. Assumes nothing.
-use Rattle.octets.specs.Words.{_+_, _-_, _<_, _≤_, _≡_, length}
-use Rattle.octets.proofs.Tools.{refl, sym, ap, _∙_, arith, needs, free}
-use Rattle.bundle.specs.Feed.{ended, bad}
+use Rattle.octets.specs.Words.{_-_, length}
+use Rattle.octets.proofs.Tools.{refl, sym, _∙_, arith, needs, free}
 use Rattle.bundle.specs.Listing.{lastLine, verdictLine}
 use Rattle.bundle.proofs.FrameLaws.{size}
-use Rattle.bundle.proofs.ListingLaws.{Going, there, go-start, go-config, go-current, go-value, go-call, go-line, go-end, go-bad, written-as}
+use Rattle.bundle.proofs.ListingLaws.{Going, there, go-start, go-config, go-current, go-value, go-call, go-judged, go-end, go-bad}
 use Rattle.bundle.proofs.put_lines.Statement.{statement}
 use Rattle.bundle.proofs.put_lines.Tie as tie
 
@@ -25,7 +24,7 @@ unfolding size
 loop-less c =
     let f = c .before .before .before in
     let e = sym (f .frame-at .ensures) ∙ c .before .enum-told .given .1 in
-    omega (arith, there (f .before .loop .inv) e, ap (λ r. r .at) (c .with-config .ensures))
+    rw (c .with-config .ensures) (omega (arith, there (f .before .loop .inv) e))
 
 loop-again : tie.Need-loop-again Inv-loop μ-loop
 loop-again c =
@@ -40,7 +39,7 @@ unfolding size
 loop-less-2 c =
     let f = c .before .before .before in
     let e = sym (f .frame-at .ensures) ∙ c .before .enum-told2 .given .1 in
-    omega (arith, there (f .before .loop .inv) e, ap (λ r. r .at) (c .with-current .ensures))
+    rw (c .with-current .ensures) (omega (arith, there (f .before .loop .inv) e))
 
 loop-again-2 : tie.Need-loop-again-2 Inv-loop μ-loop
 loop-again-2 c =
@@ -67,7 +66,7 @@ loop-less-3 c =
     let told = c .before .before .before .before .before in
     let f = told .before .before in
     let e = sym (f .frame-at .ensures) ∙ told .enum-told3 .given .1 in
-    omega (arith, there (f .before .loop .inv) e, ap (λ r. r .at) (c .with-value .ensures))
+    rw (c .with-value .ensures) (omega (arith, there (f .before .loop .inv) e))
 
 loop-again-3 : tie.Need-loop-again-3 Inv-loop μ-loop
 loop-again-3 c =
@@ -84,7 +83,7 @@ unfolding size
 loop-less-4 c =
     let f = c .before .before .before in
     let e = sym (f .frame-at .ensures) ∙ c .before .enum-told4 .given .1 in
-    omega (arith, there (f .before .loop .inv) e, ap (λ r. r .at) (c .with-call .ensures))
+    rw (c .with-call .ensures) (omega (arith, there (f .before .loop .inv) e))
 
 loop-again-4 : tie.Need-loop-again-4 Inv-loop μ-loop
 loop-again-4 c =
@@ -125,7 +124,7 @@ loop-less-5 c =
     let told = c .before .before .before .before .before .before .before .before in
     let f = told .before .before in
     let e = sym (f .frame-at .ensures) ∙ told .len .given .1 in
-    omega (arith, there (f .before .loop .inv) e, ap (λ r. r .at) (c .past-packet .ensures))
+    rw (c .past-packet .ensures) (omega (arith, there (f .before .loop .inv) e))
 
 loop-again-5 : tie.Need-loop-again-5 Inv-loop μ-loop
 loop-again-5 c =
@@ -133,7 +132,7 @@ loop-again-5 c =
     let judged = put .before .before in
     let told = judged .before .before .before in
     let f = told .before .before in
-    rw (c .past-packet .ensures) (go-line (f .before .loop .inv) _ (sym (f .frame-at .ensures) ∙ told .len .given .1) (written-as _ (judged .judge .result) _ (judged .judge .ensures) (put .put-line .ensures .0)) (put .put-line .ensures .1))
+    rw (c .past-packet .ensures) (go-judged (f .before .loop .inv) _ (judged .judge .result) (sym (f .frame-at .ensures) ∙ told .len .given .1) (judged .judge .ensures) (put .put-line .ensures .0) (put .put-line .ensures .1))
 
 put-last-requires : tie.Need-put-last-requires Inv-loop μ-loop
 put-last-requires c κs =

@@ -1,6 +1,6 @@
 -- `append_value`: the forty bytes after the gathered ones are filled with the frame's body. Assumes nothing.
 use Rattle.octets.specs.Words.{_+_, _-_, _≤_, _≡_, length}
-use Rattle.octets.proofs.Tools.{ap, _∙_, arith, needs}
+use Rattle.octets.proofs.Tools.{_∙_, arith, needs}
 use Rattle.octets.proofs.OctetsLaws.{length-octets}
 use Rattle.bundle.proofs.TextLaws.{appended}
 use Rattle.bundle.proofs.FrameLaws.{octets-part}

@@ -1,7 +1,6 @@
 -- `body`: the bytes lie inside and are that part of the input, or zeros stand for them. Assumes nothing.
 use Rattle.octets.specs.Words.{_+_, _-_, _<_, _≤_, _≡_, length}
-use Rattle.octets.proofs.Tools.{sym, ap, _∙_, arith, needs}
-use lib.ListN.{length-replicate}
+use Rattle.octets.proofs.Tools.{sym, _∙_, arith, needs}
 use Rattle.bundle.proofs.FrameLaws.{octets-part, held-in, held-out, zeros}
 use Rattle.bundle.proofs.frames.body.Statement.{statement}
 use Rattle.bundle.proofs.frames.body.Tie as tie

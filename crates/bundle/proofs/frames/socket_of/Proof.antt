@@ -1,6 +1,6 @@
 -- `socket_of`: the fields by their places; the address by two numbers of eight octets. Assumes nothing.
 use Rattle.octets.specs.Words.{_≡_}
-use Rattle.octets.proofs.Tools.{ap, _∙_, needs, free}
+use Rattle.octets.proofs.Tools.{_∙_, needs, free}
 use Rattle.octets.specs.Octets.{octetsAt}
 use Rattle.bundle.proofs.FrameLaws.{address}
 use Rattle.bundle.proofs.frames.socket_of.Statement.{statement}

@@ -1,5 +1,5 @@
 -- `put_line`: the six parts one after the other. Assumes nothing.
-use Rattle.octets.proofs.Tools.{sym, arith, needs, free}
+use Rattle.octets.proofs.Tools.{arith, needs, free}
 use Rattle.bundle.specs.Listing.{line}
 use Rattle.bundle.proofs.TextLaws.{then}
 use Rattle.bundle.proofs.lines.put_line.Statement.{statement}

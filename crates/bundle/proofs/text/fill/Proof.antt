@@ -1,6 +1,6 @@
 -- `fill`: the first i bytes are the text's. Assumes nothing.
 use Rattle.octets.specs.Words.{_-_, _<_, _≤_, _≡_, length, take}
-use Rattle.octets.proofs.Tools.{refl, _∙_, needs}
+use Rattle.octets.proofs.Tools.{refl, needs}
 use lib.ListN.{length-set}
 use Rattle.bundle.proofs.TextLaws.{copied, copied-all}
 use Rattle.bundle.proofs.text.fill.Statement.{statement}

@@ -1,6 +1,6 @@
 -- `put_decimal`: one digit, or the digits that stand at the end of the twenty. Assumes nothing.
 use Rattle.octets.specs.Words.{_≡_, length}
-use Rattle.octets.proofs.Tools.{ap, _∙_, arith, needs}
+use Rattle.octets.proofs.Tools.{_∙_, arith, needs}
 use Rattle.bundle.proofs.TextLaws.{at-most, one-digit, decimal-most, from-on}
 use Rattle.bundle.proofs.text.put_decimal.Statement.{statement}
 use Rattle.bundle.proofs.text.put_decimal.Tie as tie

@@ -1,6 +1,6 @@
 -- `put_part`: the first i bytes of the text are put. Assumes nothing.
 use Rattle.octets.specs.Words.{_-_, _<_, _≤_, _≡_, length, take}
-use Rattle.octets.proofs.Tools.{refl, ap, _∙_, needs}
+use Rattle.octets.proofs.Tools.{refl, _∙_, needs}
 use lib.Seq.{take-all}
 use Rattle.octets.specs.Octets.{put}
 use Rattle.bundle.proofs.TextLaws.{same-length, put-more}
