@@ -1,8 +1,21 @@
-// The classifier for programs in other languages: `rt staticlib export` writes target/staticlib/libexport.a, for x86-64. A `&[u8]`
-// passes as a pointer and a length, a reference to an array as a pointer.
+// The classifier, the refresh-deadline check and the seven records for programs in other languages: `rt staticlib export` writes
+// target/staticlib/libexport.a, for x86-64. A `&[u8]` passes as a pointer and a length, a reference to an array as a pointer.
+// include/threadwicket.h has the declarations for C.
+mod config;
+mod cookie_value;
+mod current;
+mod entry;
+mod inspection;
+mod key;
+mod mutation;
+mod view;
+
+use deadline::RefreshDeadlineDecision;
 use endpoint::ProtectedEndpoint;
 use packet::PacketEndpointDisposition;
+use units::BootNs;
 ghost use Rattle.octets.specs.Words.{_≤_, _≡_};
+ghost use Rattle.deadline.specs.Deadline.{decisionNumber, refreshDecision};
 ghost use Rattle.packet.specs.Answers.{dispositionNumber};
 ghost use Rattle.packet.specs.Reading.{classifyOf};
 ghost use Rattle.export.specs.Export.{readingNumber};
@@ -40,4 +53,28 @@ pub extern "C" fn threadwicket_classify(
     );
     let disposition = reading.disposition;
     number(disposition) + 256 * (reading.headers as u32)
+}
+
+fn decision_number(decision: RefreshDeadlineDecision) -> u32
+    ensures { λ r. ⌜ r ≡ decisionNumber decision ⌝ }
+{
+    match decision {
+        RefreshDeadlineDecision::PriorExpired => 0,
+        RefreshDeadlineDecision::RequestedDeadlineInvalid => 1,
+        RefreshDeadlineDecision::DeadlineRegressed => 2,
+        RefreshDeadlineDecision::Apply => 3,
+    }
+}
+
+// Whether a requested deadline may take the place of the prior one: 0 PriorExpired, 1 RequestedDeadlineInvalid, 2 DeadlineRegressed or
+// 3 Apply.
+#[no_mangle]
+pub extern "C" fn threadwicket_refresh(observed: u64, prior: u64, requested: u64) -> u32
+    ensures { λ r. ⌜ r ≡ refreshDecision observed prior requested ⌝ }
+{
+    decision_number(deadline::evaluate_refresh_deadlines(
+        BootNs(observed),
+        BootNs(prior),
+        BootNs(requested),
+    ))
 }

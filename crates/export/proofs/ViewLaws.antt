@@ -1,0 +1,150 @@
+-- The laws of every view, proved once: the answers of the two functions that a view has, by the ways through their code. A view owes
+-- `Viewable`: its codec's laws, a slot for each field, and that its fixed fields are those of every record. Assumes nothing.
+use Rattle.octets.specs.Words.{ℕ, suc, _^_, _<_, _≤_, _≡_, Bool, true, false, cond, _&&_, List, [], _∷_, _++_, length, drop, replicate, eqb, ltb, leb}
+use Rattle.octets.proofs.Tools.{refl, sym, ap, _∙_, true≢false, arith, eq-eqb, ne-eqb, lt-ltb, le-leb, lt-leb, eqb-true, ltb-true, leb-true}
+use lib.ListN.{length-replicate, drop-of-length-le}
+use mathlib.Core.List.{append-nil}
+use Rattle.octets.specs.Octets.{Bytes, octetsAt, le}
+use Rattle.octets.specs.Layout.{Field, width, size, fieldsAt, laid, Fit}
+use Rattle.octets.specs.Stores.{puts}
+use Rattle.octets.specs.Codec.{Codec, decodeNumber, decodeValue, encodeAnswer}
+use Rattle.octets.proofs.OctetsLaws.{length-octets, le-below, Bytes-octets}
+use Rattle.octets.proofs.LayoutLaws.{fields-laid, length-laid, puts-laid, put-laid}
+use Rattle.octets.proofs.CodecLaws.{Lawful, and-left, and-right}
+use Rattle.export.specs.View.{Slot, own, fixed, View, pick, spread, wide, fitting, cleared, imageSize, image, viewDecodeNumber, viewDecodeOut, numbers, soundImage, viewEncodeNumber, viewEncodeOut, ViewDecoded, ViewEncoded}
+use Rattle.export.specs.Steps.{shown, written}
+
+pub record Viewable {R : Type 0} (W : View R) (Formed : R → Type 0) : Type 0 where
+  pub lawful : Lawful (W .codec) Formed
+  pub counted : length (W .slots) ≡ length (W .codec .layout)
+  pub same : (v : R) → spread (W .slots) (pick (W .slots) (W .codec .fields v)) ≡ W .codec .fields v
+
+-- ---- numbers
+
+pub pick-spread : (xs : List Slot) (ws : List ℕ) → length ws ≡ length (wide xs) → pick xs (spread xs ws) ≡ ws
+pick-spread [] [] e = refl
+pick-spread [] (w ∷ ws) e = absurd (omega arith)
+pick-spread (own ∷ xs) [] e = absurd (omega arith)
+pick-spread (own ∷ xs) (w ∷ ws) e = ap (λ (l : List ℕ). w ∷ l) (pick-spread xs ws (omega arith))
+pick-spread (fixed n ∷ xs) ws e = pick-spread xs ws e
+
+pub length-spread : (xs : List Slot) (ws : List ℕ) → length (spread xs ws) ≡ length xs
+length-spread [] ws = refl
+length-spread (own ∷ xs) [] = ap suc (length-spread xs [])
+length-spread (own ∷ xs) (w ∷ ws) = ap suc (length-spread xs ws)
+length-spread (fixed n ∷ xs) ws = ap suc (length-spread xs ws)
+
+pub length-pick : (xs : List Slot) (vs : List ℕ) → length vs ≡ length xs → length (pick xs vs) ≡ length (wide xs)
+length-pick [] vs e = refl
+length-pick (x ∷ xs) [] e = absurd (omega arith)
+length-pick (own ∷ xs) (v ∷ vs) e = ap suc (length-pick xs vs (omega arith))
+length-pick (fixed n ∷ xs) (v ∷ vs) e = length-pick xs vs (omega arith)
+
+pub length-fields : (fs : List Field) (s : List ℕ) (at : ℕ) → length (fieldsAt fs s at) ≡ length fs
+length-fields [] s at = refl
+length-fields (f ∷ fs) s at = ap suc (length-fields fs s _)
+
+pub fit-fitting : (fs : List Field) (vs : List ℕ) → length vs ≡ length fs → fitting fs vs ≡ true → Fit fs vs
+fit-fitting [] [] e h = tt
+fit-fitting [] (v ∷ vs) e h = absurd (omega arith)
+fit-fitting (f ∷ fs) [] e h = absurd (omega arith)
+fit-fitting (f ∷ fs) (v ∷ vs) e h = (ltb-true _ _ (and-left _ _ h), fit-fitting fs vs (omega arith) (and-right (ltb v (256 ^ width f)) _ h))
+
+-- a number of eight octets fits a field of eight
+pub eight : (s : List ℕ) (at : ℕ) → Bytes s → ltb (le (octetsAt s at 8)) (256 ^ 8) ≡ true
+eight s at h = lt-ltb _ _ (rw length-octets at (le-below (octetsAt s at 8) (Bytes-octets s at 8 h)))
+
+-- ---- decoding
+
+module _ {R : Type 0} (W : View R) {s out : List ℕ} where
+  pub decoded-refused : {n : ℕ} {out′ : List ℕ} → n ≡ decodeNumber (W .codec) s → (n ≡ 0 → ⊥) → out′ ≡ cleared (imageSize W) out → ViewDecoded W s out n out′
+  unfolding viewDecodeNumber viewDecodeOut
+  decoded-refused e h p =
+      let no = ne-eqb (decodeNumber (W .codec) s) 0 (λ z. h (e ∙ z)) in
+      record { number = simp no e; output = simp no p }
+
+  pub decoded-short : decodeNumber (W .codec) s ≡ 0 → length out < imageSize W → ViewDecoded W s out 4 out
+  unfolding viewDecodeNumber viewDecodeOut
+  decoded-short e h = record { number = simp (eq-eqb _ _ e, lt-leb _ _ h); output = simp (eq-eqb _ _ e, lt-leb _ _ h) }
+
+-- of two tests that answer 2 and 1 where they fail, 0 says that both hold
+both-hold : (a b : Bool) → _≡_ {A = ℕ} (cond a (cond b 0 2) 1) 0 → (a ≡ true) × (b ≡ true)
+both-hold true true e = (refl, refl)
+both-hold true false e = absurd (omega arith)
+both-hold false b e = absurd (omega arith)
+
+module _ {R : Type 0} (C : Codec R) (Formed : R → Type 0) (L : Lawful C Formed) where
+  -- the numbers of accepted bytes are those of their record
+  pub told : (s : List ℕ) → Bytes s → decodeNumber C s ≡ 0 → C .fields (decodeValue C s) ≡ fieldsAt (C .layout) s 0
+  unfolding decodeNumber decodeValue
+  told s h e =
+      let both = both-hold (eqb (length s) (size (C .layout))) (C .ok (fieldsAt (C .layout) s 0)) e in
+      simp (both .0, both .1) (L .back s 0 h (both .1))
+
+module _ {R : Type 0} (W : View R) (Formed : R → Type 0) (L : Viewable W Formed) {s out : List ℕ} where
+  pub decoded-shown : {out′ : List ℕ} → Bytes s → decodeNumber (W .codec) s ≡ 0 → imageSize W ≤ length out → out′ ≡ shown W s out → ViewDecoded W s out 0 out′
+  unfolding viewDecodeNumber viewDecodeOut
+  decoded-shown h e room p =
+      let vs : List ℕ = fieldsAt (W .codec .layout) s 0 in
+      let count : length (pick (W .slots) vs) ≡ length (wide (W .slots)) =
+      length-pick (W .slots) vs (length-fields (W .codec .layout) s 0 ∙ sym (L .counted)) in
+      let there = puts-laid (wide (W .slots)) (pick (W .slots) vs) out 0 ∙ put-laid (wide (W .slots)) (pick (W .slots) vs) out count room in
+      record {
+        number = simp (eq-eqb _ _ e, le-leb _ _ room);
+        output = simp (eq-eqb _ _ e, le-leb _ _ room, told (W .codec) Formed (L .lawful) s h e) (p ∙ there);
+      }
+
+-- ---- encoding
+
+-- an encoder that answers 0 has the room
+done-room : (b : Bool) (len room : ℕ) → encodeAnswer b len room ≡ 0 → len ≤ room
+unfolding encodeAnswer
+done-room b len room z = leb-true _ _ (answered b (leb len room) z)
+  where
+    answered : (a b : Bool) → _≡_ {A = ℕ} (cond a (cond b 0 4) 3) 0 → b ≡ true
+    answered true true z = refl
+    answered true false z = absurd (omega arith)
+    answered false b z = absurd (omega arith)
+
+is-zero : (b : Bool) → eqb (cond b 0 2) 0 ≡ b
+is-zero true = refl
+is-zero false = refl
+
+-- the decoder takes the bytes of numbers that fit where they obey the rule
+taken : {R : Type 0} (C : Codec R) (vs : List ℕ) → length vs ≡ length (C .layout) → Fit (C .layout) vs → eqb (decodeNumber C (laid (C .layout) vs)) 0 ≡ C .ok vs
+unfolding decodeNumber
+taken C vs count fit = simp (eq-eqb _ _ (length-laid (C .layout) vs count), fields-laid (C .layout) vs fit) (is-zero (C .ok vs))
+
+module _ {R : Type 0} (W : View R) {f out : List ℕ} where
+  pub encoded-length : (length f ≡ imageSize W → ⊥) → ViewEncoded W f out 1 out
+  unfolding viewEncodeNumber viewEncodeOut
+  encoded-length h = record { number = simp (ne-eqb _ _ h); output = simp (ne-eqb _ _ h) }
+
+  pub encoded-refused : {n : ℕ} → length f ≡ imageSize W → n ≡ encodeAnswer (soundImage W f) (size (W .codec .layout)) (length out) → (n ≡ 0 → ⊥) → ViewEncoded W f out n out
+  unfolding viewEncodeNumber viewEncodeOut
+  encoded-refused e p h =
+      let no = ne-eqb (encodeAnswer (soundImage W f) (size (W .codec .layout)) (length out)) 0 (λ z. h (p ∙ z)) in
+      record { number = simp (eq-eqb _ _ e) p; output = simp (eq-eqb _ _ e, no) }
+
+  pub encoded-written : {out′ : List ℕ} → length (W .slots) ≡ length (W .codec .layout) → length f ≡ imageSize W →
+      encodeAnswer (soundImage W f) (size (W .codec .layout)) (length out) ≡ 0 → out′ ≡ written W f out → ViewEncoded W f out 0 out′
+  unfolding viewEncodeNumber viewEncodeOut
+  encoded-written counted e z p =
+      let count = length-spread (W .slots) (fieldsAt (wide (W .slots)) f 0) ∙ counted in
+      let room = done-room (soundImage W f) (size (W .codec .layout)) (length out) z in
+      let there = puts-laid (W .codec .layout) (numbers W f) out 0 ∙ put-laid (W .codec .layout) (numbers W f) out count room in
+      record { number = simp (eq-eqb _ _ e, z); output = simp (eq-eqb _ _ e, z) (p ∙ there) }
+
+-- bytes on trial: numbers that fit are a sound record's where the decoder takes their bytes
+pub on-trial : {R : Type 0} (W : View R) (f : List ℕ) {n : ℕ} {trial : List ℕ} → length (W .slots) ≡ length (W .codec .layout) → fitting (W .codec .layout) (numbers W f) ≡ true →
+    trial ≡ written W f (replicate (size (W .codec .layout)) 0) → n ≡ decodeNumber (W .codec) trial → eqb n 0 ≡ soundImage W f
+unfolding soundImage
+on-trial W f counted fits p e =
+    let fs = W .codec .layout in
+    let vs = numbers W f in
+    let zeros : List ℕ = replicate (size fs) 0 in
+    let count : length vs ≡ length fs = length-spread (W .slots) (fieldsAt (wide (W .slots)) f 0) ∙ counted in
+    let none : drop (size fs) zeros ≡ [] = drop-of-length-le zeros {i = size fs} (rw length-replicate (omega arith)) in
+    let there : written W f zeros ≡ laid fs vs =
+    puts-laid fs vs zeros 0 ∙ put-laid fs vs zeros count (rw length-replicate (omega arith)) ∙ ap (λ (l : List ℕ). laid fs vs ++ l) none ∙ append-nil (laid fs vs) in
+    simp fits (ap (λ (k : ℕ). eqb k 0) (e ∙ ap (decodeNumber (W .codec)) (p ∙ there)) ∙ taken (W .codec) vs count (fit-fitting fs vs count fits))

@@ -1,0 +1,45 @@
+-- Each of the seven views obeys the laws of views: a slot for each field, and every record's fixed fields as the slots have them.
+-- Assumes nothing.
+use Rattle.octets.specs.Words.{_≡_}
+use Rattle.octets.proofs.Tools.{refl}
+use Rattle.records.specs.declared.current.CurrentFenceToken.{CurrentFenceToken}
+use Rattle.records.specs.declared.mutation.FenceMutationAuthority.{FenceMutationAuthority}
+use Rattle.records.specs.declared.inspection.InspectedEntry.{InspectedEntry}
+use Rattle.records.specs.declared.inspection.InspectedEntry.the-variants.{Absent, Present}
+use Rattle.records.specs.Inspection.{inspection, inspectionCodec}
+use Rattle.records.proofs.CurrentLaws as current
+use Rattle.records.proofs.MutationLaws as mutation
+use Rattle.records.proofs.KeyLaws as key
+use Rattle.records.proofs.EntryLaws as entry
+use Rattle.records.proofs.CookieValueLaws as value
+use Rattle.records.proofs.ConfigLaws as config
+use Rattle.records.proofs.InspectionLaws as inspected
+use Rattle.export.specs.View.{pick, spread}
+use Rattle.export.specs.Views.{currentView, mutationView, keyView, entryView, cookieValueView, configView, inspectionView}
+use Rattle.export.proofs.ViewLaws.{Viewable}
+
+pub current-viewable : Viewable currentView current.Formed
+current-viewable = record { lawful = current.current-lawful; counted = refl; same = λ v. refl }
+
+pub mutation-viewable : Viewable mutationView mutation.Formed
+mutation-viewable = record { lawful = mutation.mutation-lawful; counted = refl; same = λ v. refl }
+
+pub key-viewable : Viewable keyView key.Formed
+key-viewable = record { lawful = key.key-lawful; counted = refl; same = λ v. refl }
+
+pub entry-viewable : Viewable entryView entry.Formed
+entry-viewable = record { lawful = entry.entry-lawful; counted = refl; same = λ v. refl }
+
+pub cookie-value-viewable : Viewable cookieValueView value.Formed
+cookie-value-viewable = record { lawful = value.cookie-value-lawful; counted = refl; same = λ v. refl }
+
+pub config-viewable : Viewable configView config.Formed
+config-viewable = record { lawful = config.config-lawful; counted = refl; same = λ v. refl }
+
+same-cases : (c : CurrentFenceToken) (m : FenceMutationAuthority) (e : InspectedEntry) →
+    spread (inspectionView .slots) (pick (inspectionView .slots) (inspectionCodec .fields (inspection c m e))) ≡ inspectionCodec .fields (inspection c m e)
+same-cases c m Absent = refl
+same-cases c m (Present v) = refl
+
+pub inspection-viewable : Viewable inspectionView inspected.Formed
+inspection-viewable = record { lawful = inspected.inspection-lawful; counted = refl; same = λ v. same-cases (v .current) (v .mutation) (v .entry) }

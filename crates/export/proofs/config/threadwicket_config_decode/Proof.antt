@@ -1,0 +1,23 @@
+-- `threadwicket_config_decode`: the answers of every decoder into an image. Assumes nothing.
+use Rattle.octets.proofs.Tools.{needs, free}
+use Rattle.records.proofs.ConfigLaws.{Formed}
+use Rattle.export.specs.Views.{configView}
+use Rattle.export.proofs.ViewLaws.{decoded-refused, decoded-short, decoded-shown}
+use Rattle.export.proofs.Viewables.{config-viewable}
+use Rattle.export.proofs.config.threadwicket_config_decode.Statement.{statement}
+use Rattle.export.proofs.config.threadwicket_config_decode.Tie as tie
+
+returns : tie.Need-returns
+returns c = decoded-refused configView (cc) (c .before .before .before .before .if1 .taken) (c .before .before .clear .ensures)
+
+returns-2 : tie.Need-returns-2
+returns-2 c = decoded-short configView (cc) (c .if2 .taken)
+
+returns-3 : tie.Need-returns-3
+returns-3 c =
+    let tested = c .before .before .before .before in
+    let known = tested .before .before .before .before in
+    decoded-shown configView Formed config-viewable (λ k. known .shared-slice-known .given k .fits) (cc) (tested .if2 .left) (cc)
+
+pub threadwicket-config-decode-spec : {M : Type 1} → statement M
+threadwicket-config-decode-spec = tie.close (tie.spec free free (λ c. search needs) returns returns-2 free (λ c. search needs) returns-3)

@@ -1,0 +1,10 @@
+-- `write`: two parts, and the two numbers of the address. Assumes nothing.
+use Rattle.octets.proofs.Tools.{needs, free}
+use Rattle.export.proofs.config.write.Statement.{statement}
+use Rattle.export.proofs.config.write.Tie as tie
+
+returns : tie.Need-returns
+returns c = cc
+
+pub write-spec : {M : Type 1} → statement M
+write-spec = tie.close (tie.spec free free free free free free (λ c. search needs) returns)

@@ -1,0 +1,10 @@
+-- `show_front`: one store for each field, in the order of the image. Assumes nothing.
+use Rattle.octets.proofs.Tools.{needs, free}
+use Rattle.export.proofs.inspection.show_front.Statement.{statement}
+use Rattle.export.proofs.inspection.show_front.Tie as tie
+
+returns : tie.Need-returns
+returns c = cc
+
+pub show-front-spec : {M : Type 1} → statement M
+show-front-spec = tie.close (tie.spec free (λ c. search needs) free free (λ c. search needs) free free free free free free free free free (λ c. search needs) returns)

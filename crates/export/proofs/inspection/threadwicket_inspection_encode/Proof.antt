@@ -1,0 +1,18 @@
+-- `threadwicket_inspection_encode`: the answers of every encoder from an image. Assumes nothing.
+use Rattle.octets.proofs.Tools.{refl, needs, free}
+use Rattle.export.specs.Views.{inspectionView}
+use Rattle.export.proofs.ViewLaws.{encoded-length, encoded-refused, encoded-written}
+use Rattle.export.proofs.inspection.threadwicket_inspection_encode.Statement.{statement}
+use Rattle.export.proofs.inspection.threadwicket_inspection_encode.Tie as tie
+
+returns : tie.Need-returns
+returns c = encoded-length inspectionView (c .if1 .taken)
+
+returns-2 : tie.Need-returns-2
+returns-2 c = encoded-refused inspectionView (cc) (cc) (c .if2 .taken)
+
+returns-3 : tie.Need-returns-3
+returns-3 c = encoded-written inspectionView refl (cc) (cc) (cc)
+
+pub threadwicket-inspection-encode-spec : {M : Type 1} → statement M
+threadwicket-inspection-encode-spec = tie.close (tie.spec returns free free returns-2 free (λ c. search needs) returns-3)

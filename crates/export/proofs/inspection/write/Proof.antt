@@ -1,0 +1,10 @@
+-- `write`: the four parts make the record. Assumes nothing.
+use Rattle.octets.proofs.Tools.{needs, free}
+use Rattle.export.proofs.inspection.write.Statement.{statement}
+use Rattle.export.proofs.inspection.write.Tie as tie
+
+returns : tie.Need-returns
+returns c = cc
+
+pub write-spec : {M : Type 1} → statement M
+write-spec = tie.close (tie.spec free free free free (λ c. search needs) returns)

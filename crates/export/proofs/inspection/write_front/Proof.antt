@@ -1,0 +1,10 @@
+-- `write_front`: one store for each field, in the order of the layout. Assumes nothing.
+use Rattle.octets.proofs.Tools.{needs, free}
+use Rattle.export.proofs.inspection.write_front.Statement.{statement}
+use Rattle.export.proofs.inspection.write_front.Tie as tie
+
+returns : tie.Need-returns
+returns c = cc
+
+pub write-front-spec : {M : Type 1} → statement M
+write-front-spec = tie.close (tie.spec free free free free free free free free free free free (λ c. search needs) returns)

@@ -1,0 +1,10 @@
+-- `write_value`: one store for each field, in the order of the layout. Assumes nothing.
+use Rattle.octets.proofs.Tools.{needs, free}
+use Rattle.export.proofs.inspection.write_value.Statement.{statement}
+use Rattle.export.proofs.inspection.write_value.Tie as tie
+
+returns : tie.Need-returns
+returns c = cc
+
+pub write-value-spec : {M : Type 1} → statement M
+write-value-spec = tie.close (tie.spec free free free free free free free free free free free (λ c. search needs) returns)

@@ -1,0 +1,57 @@
+-- The views of the seven records: which fields of document 01's 'Record layouts' are a record's own numbers. Marks, versions and zeros
+-- are not. Assumes nothing.
+use Rattle.octets.specs.Words.{List, [], _∷_, _++_}
+use Rattle.records.specs.declared.current.CurrentFenceToken.{CurrentFenceToken}
+use Rattle.records.specs.declared.mutation.FenceMutationAuthority.{FenceMutationAuthority}
+use Rattle.records.specs.declared.key.FenceCookieKey.{FenceCookieKey}
+use Rattle.records.specs.declared.entry.FenceEntry.{FenceEntry}
+use Rattle.records.specs.declared.cookie_value.FenceCookieValue.{FenceCookieValue}
+use Rattle.records.specs.declared.config.FenceConfig.{FenceConfig}
+use Rattle.records.specs.declared.inspection.FenceInspection.{FenceInspection}
+use Rattle.records.specs.Current.{currentCodec}
+use Rattle.records.specs.Mutation.{mutationCodec}
+use Rattle.records.specs.Key.{keyCodec}
+use Rattle.records.specs.Entry.{entryCodec}
+use Rattle.records.specs.CookieValue.{cookieValueCodec}
+use Rattle.records.specs.Config.{configMark, configCodec}
+use Rattle.records.specs.Inspection.{inspectionMark, inspectionCodec}
+use Rattle.export.specs.View.{Slot, own, fixed, View}
+
+-- control, token, cookie
+abbrev pub currentView : View CurrentFenceToken
+currentView = record { codec = currentCodec; slots = fixed 0 ∷ own ∷ own ∷ own ∷ [] }
+
+-- generation, claim
+abbrev pub mutationView : View FenceMutationAuthority
+mutationView = record { codec = mutationCodec; slots = own ∷ own ∷ [] }
+
+-- cookie, token
+abbrev pub keyView : View FenceCookieKey
+keyView = record { codec = keyCodec; slots = own ∷ own ∷ [] }
+
+-- control, token, deadline, epoch
+abbrev pub entryView : View FenceEntry
+entryView = record { codec = entryCodec; slots = fixed 0 ∷ own ∷ own ∷ own ∷ own ∷ [] }
+
+-- control, cookie, token, deadline, epoch
+abbrev pub cookieValueView : View FenceCookieValue
+cookieValueView = record { codec = cookieValueCodec; slots = fixed 0 ∷ own ∷ own ∷ own ∷ own ∷ own ∷ [] }
+
+-- family, port, capacity, root cgroup, and the sixteen octets of the address as two numbers: eight octets each, as they stand
+abbrev pub configView : View FenceConfig
+configView = record {
+  codec = configCodec;
+  slots = fixed configMark ∷ fixed 5 ∷ own ∷ fixed 0 ∷ own ∷ fixed 0 ∷ own ∷ own ∷ own ∷ own ∷ [];
+}
+
+-- the flag, then the own numbers of the current record, of the mutation authority and of the cookie value
+abbrev pub inspectionView : View FenceInspection
+inspectionView = record {
+  codec = inspectionCodec;
+  slots =
+      (fixed inspectionMark ∷ fixed 5 ∷ own ∷ fixed 0 ∷ [])
+      ++ (currentView .slots
+      ++ (mutationView .slots
+      ++ (cookieValueView .slots
+      ++ (fixed 0 ∷ fixed 0 ∷ fixed 0 ∷ fixed 0 ∷ fixed 0 ∷ []))));
+}

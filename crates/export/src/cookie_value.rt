@@ -1,0 +1,75 @@
+// A cookie value for programs in other languages. Its fields: control, cookie, token, deadline, epoch.
+use records::cookie_value::FenceCookieValue;
+ghost use Rattle.octets.specs.Words.{_≡_};
+ghost use Rattle.export.specs.View.{soundImage, ViewDecoded, ViewEncoded};
+ghost use Rattle.export.specs.Views.{cookieValueView};
+ghost use Rattle.export.specs.Steps.{shown, written};
+
+// The length of the fields.
+const FIELDS: usize = 40;
+
+fn show(bytes: &[u8], fields: &mut [u8])
+    ensures { λ r. ⌜ now (fields .exit) ≡ shown cookieValueView (now (bytes .entry)) (now (fields .entry)) ⌝ }
+{
+    octets::put_u64_le(fields, 0, octets::get_u32_le(bytes, 4) as u64);
+    octets::put_u64_le(fields, 8, octets::get_u64_le(bytes, 8));
+    octets::put_u64_le(fields, 16, octets::get_u64_le(bytes, 16));
+    octets::put_u64_le(fields, 24, octets::get_u64_le(bytes, 24));
+    octets::put_u64_le(fields, 32, octets::get_u64_le(bytes, 32));
+}
+
+fn write(fields: &[u8], out: &mut [u8])
+    ensures { λ r. ⌜ now (out .exit) ≡ written cookieValueView (now (fields .entry)) (now (out .entry)) ⌝ }
+{
+    octets::put_u32_le(out, 0, 0);
+    crate::view::put_four(out, 4, octets::get_u64_le(fields, 0));
+    octets::put_u64_le(out, 8, octets::get_u64_le(fields, 8));
+    octets::put_u64_le(out, 16, octets::get_u64_le(fields, 16));
+    octets::put_u64_le(out, 24, octets::get_u64_le(fields, 24));
+    octets::put_u64_le(out, 32, octets::get_u64_le(fields, 32));
+}
+
+// Whether the fields are a record: each fits its place, and the decoder takes the bytes that they give.
+fn is_sound(fields: &[u8]) -> bool
+    ensures { λ r. ⌜ r ≡ soundImage cookieValueView (now (fields .entry)) ⌝ }
+{
+    if 0xffff_ffff < octets::get_u64_le(fields, 0) {
+        return false;
+    }
+    let mut trial = [0u8; 40];
+    write(fields, &mut trial);
+    FenceCookieValue::decode(&trial).number == 0
+}
+
+// From bytes to fields.
+#[no_mangle]
+pub extern "C" fn threadwicket_cookie_value_decode(bytes: &[u8], fields: &mut [u8]) -> u32
+    ensures { λ r. ⌜ ViewDecoded cookieValueView (now (bytes .entry)) (now (fields .entry)) r (now (fields .exit)) ⌝ }
+{
+    let number = FenceCookieValue::decode(bytes).number;
+    if number != 0 {
+        crate::view::clear(fields, FIELDS);
+        return number;
+    }
+    if fields.len() < FIELDS {
+        return 4;
+    }
+    show(bytes, fields);
+    0
+}
+
+// From fields to bytes.
+#[no_mangle]
+pub extern "C" fn threadwicket_cookie_value_encode(fields: &[u8], bytes: &mut [u8]) -> u32
+    ensures { λ r. ⌜ ViewEncoded cookieValueView (now (fields .entry)) (now (bytes .entry)) r (now (bytes .exit)) ⌝ }
+{
+    if fields.len() != FIELDS {
+        return 1;
+    }
+    let number = octets::encode_number(is_sound(fields), FenceCookieValue::LEN, bytes.len());
+    if number != 0 {
+        return number;
+    }
+    write(fields, bytes);
+    0
+}

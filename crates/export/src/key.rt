@@ -1,0 +1,65 @@
+// A key for programs in other languages. Its fields: cookie, token.
+use records::key::FenceCookieKey;
+ghost use Rattle.octets.specs.Words.{_≡_};
+ghost use Rattle.export.specs.View.{soundImage, ViewDecoded, ViewEncoded};
+ghost use Rattle.export.specs.Views.{keyView};
+ghost use Rattle.export.specs.Steps.{shown, written};
+
+// The length of the fields.
+const FIELDS: usize = 16;
+
+fn show(bytes: &[u8], fields: &mut [u8])
+    ensures { λ r. ⌜ now (fields .exit) ≡ shown keyView (now (bytes .entry)) (now (fields .entry)) ⌝ }
+{
+    octets::put_u64_le(fields, 0, octets::get_u64_le(bytes, 0));
+    octets::put_u64_le(fields, 8, octets::get_u64_le(bytes, 8));
+}
+
+fn write(fields: &[u8], out: &mut [u8])
+    ensures { λ r. ⌜ now (out .exit) ≡ written keyView (now (fields .entry)) (now (out .entry)) ⌝ }
+{
+    octets::put_u64_le(out, 0, octets::get_u64_le(fields, 0));
+    octets::put_u64_le(out, 8, octets::get_u64_le(fields, 8));
+}
+
+// Whether the fields are a record: each fits its place, and the decoder takes the bytes that they give.
+fn is_sound(fields: &[u8]) -> bool
+    ensures { λ r. ⌜ r ≡ soundImage keyView (now (fields .entry)) ⌝ }
+{
+    let mut trial = [0u8; 16];
+    write(fields, &mut trial);
+    FenceCookieKey::decode(&trial).number == 0
+}
+
+// From bytes to fields.
+#[no_mangle]
+pub extern "C" fn threadwicket_key_decode(bytes: &[u8], fields: &mut [u8]) -> u32
+    ensures { λ r. ⌜ ViewDecoded keyView (now (bytes .entry)) (now (fields .entry)) r (now (fields .exit)) ⌝ }
+{
+    let number = FenceCookieKey::decode(bytes).number;
+    if number != 0 {
+        crate::view::clear(fields, FIELDS);
+        return number;
+    }
+    if fields.len() < FIELDS {
+        return 4;
+    }
+    show(bytes, fields);
+    0
+}
+
+// From fields to bytes.
+#[no_mangle]
+pub extern "C" fn threadwicket_key_encode(fields: &[u8], bytes: &mut [u8]) -> u32
+    ensures { λ r. ⌜ ViewEncoded keyView (now (fields .entry)) (now (bytes .entry)) r (now (bytes .exit)) ⌝ }
+{
+    if fields.len() != FIELDS {
+        return 1;
+    }
+    let number = octets::encode_number(is_sound(fields), FenceCookieKey::LEN, bytes.len());
+    if number != 0 {
+        return number;
+    }
+    write(fields, bytes);
+    0
+}
