@@ -120,16 +120,20 @@ module _ {R : Type 0} (W : View R) {f out : List ℕ} where
   unfolding viewEncodeNumber viewEncodeOut
   encoded-length h = record { number = simp (ne-eqb _ _ h); output = simp (ne-eqb _ _ h) }
 
-  pub encoded-refused : {n : ℕ} → length f ≡ imageSize W → n ≡ encodeAnswer (soundImage W f) (size (W .codec .layout)) (length out) → (n ≡ 0 → ⊥) → ViewEncoded W f out n out
+  -- b is the image's soundness, and n what the encoder answers of it
+  pub encoded-refused : {b : Bool} {n : ℕ} → length f ≡ imageSize W → b ≡ soundImage W f → n ≡ encodeAnswer b (size (W .codec .layout)) (length out) →
+      (n ≡ 0 → ⊥) → ViewEncoded W f out n out
   unfolding viewEncodeNumber viewEncodeOut
-  encoded-refused e p h =
-      let no = ne-eqb (encodeAnswer (soundImage W f) (size (W .codec .layout)) (length out)) 0 (λ z. h (p ∙ z)) in
-      record { number = simp (eq-eqb _ _ e) p; output = simp (eq-eqb _ _ e, no) }
+  encoded-refused e s p h =
+      let answered = p ∙ ap (λ (b : Bool). encodeAnswer b (size (W .codec .layout)) (length out)) s in
+      let no = ne-eqb (encodeAnswer (soundImage W f) (size (W .codec .layout)) (length out)) 0 (λ z. h (answered ∙ z)) in
+      record { number = simp (eq-eqb _ _ e) answered; output = simp (eq-eqb _ _ e, no) }
 
-  pub encoded-written : {out′ : List ℕ} → length (W .slots) ≡ length (W .codec .layout) → length f ≡ imageSize W →
-      encodeAnswer (soundImage W f) (size (W .codec .layout)) (length out) ≡ 0 → out′ ≡ written W f out → ViewEncoded W f out 0 out′
+  pub encoded-written : {b : Bool} {n : ℕ} {out′ : List ℕ} → length (W .slots) ≡ length (W .codec .layout) → length f ≡ imageSize W →
+      b ≡ soundImage W f → n ≡ encodeAnswer b (size (W .codec .layout)) (length out) → n ≡ 0 → out′ ≡ written W f out → ViewEncoded W f out 0 out′
   unfolding viewEncodeNumber viewEncodeOut
-  encoded-written counted e z p =
+  encoded-written counted e s q n0 p =
+      let z = sym (q ∙ ap (λ (b : Bool). encodeAnswer b (size (W .codec .layout)) (length out)) s) ∙ n0 in
       let count = length-spread (W .slots) (fieldsAt (wide (W .slots)) f 0) ∙ counted in
       let room = done-room (soundImage W f) (size (W .codec .layout)) (length out) z in
       let there = puts-laid (W .codec .layout) (numbers W f) out 0 ∙ put-laid (W .codec .layout) (numbers W f) out count room in

@@ -1,5 +1,5 @@
 -- `threadwicket_cookie_value_decode`: the answers of every decoder into an image. Assumes nothing.
-use Rattle.octets.proofs.Tools.{needs, free}
+use Rattle.octets.proofs.Tools.{sym, _∙_, free}
 use Rattle.records.proofs.CookieValueLaws.{Formed}
 use Rattle.export.specs.Views.{cookieValueView}
 use Rattle.export.proofs.ViewLaws.{decoded-refused, decoded-short, decoded-shown}
@@ -8,16 +8,23 @@ use Rattle.export.proofs.cookie_value.threadwicket_cookie_value_decode.
 use Rattle.export.proofs.cookie_value.threadwicket_cookie_value_decode.Tie as tie
 
 returns : tie.Need-returns
-returns c = decoded-refused cookieValueView (cc) (c .before .before .before .before .if1 .taken) (c .before .before .clear .ensures)
+returns c =
+    let refused = c .before .before .before .before in
+    decoded-refused cookieValueView (refused .before .decode .ensures .number) (refused .if1 .taken) (c .before .before .clear .ensures)
 
 returns-2 : tie.Need-returns-2
-returns-2 c = decoded-short cookieValueView (cc) (c .if2 .taken)
+returns-2 c = decoded-short cookieValueView (sym (c .before .before .decode .ensures .number) ∙ c .before .if1 .left) (c .if2 .taken)
 
 returns-3 : tie.Need-returns-3
 returns-3 c =
-    let tested = c .before .before .before .before in
-    let known = tested .before .before .before .before in
-    decoded-shown cookieValueView Formed cookie-value-viewable (λ k. known .shared-slice-known .given k .fits) (cc) (tested .if2 .left) (cc)
+    let shown = c .before .before in
+    let roomy = shown .before .before in
+    let read = roomy .before .before in
+    let known = read .before .before in
+    decoded-shown cookieValueView Formed cookie-value-viewable (λ k. known .shared-slice-known .given k .fits)
+    (sym (read .decode .ensures .number) ∙ roomy .before .if1 .left) (roomy .if2 .left) (shown .show .ensures)
 
 pub threadwicket-cookie-value-decode-spec : {M : Type 1} → statement M
-threadwicket-cookie-value-decode-spec = tie.close (tie.spec free free (λ c. search needs) returns returns-2 free (λ c. search needs) returns-3)
+threadwicket-cookie-value-decode-spec =
+    tie.close
+    (tie.spec free free (λ c. c .before .before .clear .kept .0) returns returns-2 free (λ c. c .before .before .show .kept .1 .0) returns-3)
