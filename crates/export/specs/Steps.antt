@@ -1,22 +1,24 @@
 -- What the functions inside a view are held to: a layout stored field by field. What the exported functions promise does not rest on it:
 -- the octets that stand in the end are those of `laid`. Assumes nothing.
-use Rattle.octets.specs.Words.{ℕ, List, take, drop}
+use Rattle.octets.specs.Words.{ℕ, zero, suc, _+_, List, take, drop}
+use Rattle.octets.specs.Octets.{octetsAt, le, leBytes, put}
 use Rattle.octets.specs.Layout.{Field, fieldsAt}
 use Rattle.octets.specs.Stores.{puts}
 use Rattle.export.specs.View.{View, pick, wide, numbers}
 
--- the own numbers of the bytes s
-abbrev pub ownOf : {R : Type 0} → View R → List ℕ → List ℕ
-ownOf W s = pick (W .slots) (fieldsAt (W .codec .layout) s 0)
-
 -- d with the own numbers of the bytes s as an image at the start
 abbrev pub shown : {R : Type 0} → View R → List ℕ → List ℕ → List ℕ
-shown W s d = puts (wide (W .slots)) (ownOf W s) d 0
+shown W s d = puts (wide (W .slots)) (pick (W .slots) (fieldsAt (W .codec .layout) s 0)) d 0
 
 -- d with the numbers that an image f gives, as the record's layout has them
 abbrev pub written : {R : Type 0} → View R → List ℕ → List ℕ → List ℕ
 written W f d = puts (W .codec .layout) (numbers W f) d 0
 
--- of a layout and its numbers, d with n fields from the field k on, which stands at the place at
-abbrev pub part : List Field → List ℕ → ℕ → ℕ → ℕ → List ℕ → List ℕ
-part fs vs k n at d = puts (drop k fs) (take n (drop k vs)) d at
+-- the first n of them
+abbrev pub begun : {R : Type 0} → View R → ℕ → List ℕ → List ℕ → List ℕ
+begun W n f d = puts (W .codec .layout) (take n (numbers W f)) d 0
+
+-- d with n numbers of eight octets from the place j on: those that stand in s from the place i on
+abbrev pub copied : ℕ → List ℕ → ℕ → List ℕ → ℕ → List ℕ
+copied zero s i d j = d
+copied (suc n) s i d j = copied n s (i + 8) (put d j (leBytes 8 (le (octetsAt s i 8)))) (j + 8)

@@ -8,26 +8,24 @@ ghost use Rattle.export.specs.Steps.{shown, written};
 // The length of the fields.
 const FIELDS: usize = 32;
 
+// The fields of bytes,
 fn show(bytes: &[u8], fields: &mut [u8])
     ensures { λ r. ⌜ now (fields .exit) ≡ shown entryView (now (bytes .entry)) (now (fields .entry)) ⌝ }
 {
-    octets::put_u64_le(fields, 0, octets::get_u32_le(bytes, 4) as u64);
-    octets::put_u64_le(fields, 8, octets::get_u64_le(bytes, 8));
-    octets::put_u64_le(fields, 16, octets::get_u64_le(bytes, 16));
-    octets::put_u64_le(fields, 24, octets::get_u64_le(bytes, 24));
+    crate::view::widen_four(bytes, 4, fields, 0);
+    crate::view::copy(bytes, 8, fields, 8, 3);
 }
 
+// and the bytes of fields.
 fn write(fields: &[u8], out: &mut [u8])
     ensures { λ r. ⌜ now (out .exit) ≡ written entryView (now (fields .entry)) (now (out .entry)) ⌝ }
 {
     octets::put_u32_le(out, 0, 0);
-    crate::view::put_four(out, 4, octets::get_u64_le(fields, 0));
-    octets::put_u64_le(out, 8, octets::get_u64_le(fields, 8));
-    octets::put_u64_le(out, 16, octets::get_u64_le(fields, 16));
-    octets::put_u64_le(out, 24, octets::get_u64_le(fields, 24));
+    crate::view::narrow_four(fields, 0, out, 4);
+    crate::view::copy(fields, 8, out, 8, 3);
 }
 
-// Whether the fields are a record: each fits its place, and the decoder takes the bytes that they give.
+// Whether fields are a record's: each fits its place, and the decoder takes the bytes that they give.
 fn is_sound(fields: &[u8]) -> bool
     ensures { λ r. ⌜ r ≡ soundImage entryView (now (fields .entry)) ⌝ }
 {

@@ -3,76 +3,33 @@
 use records::inspection::FenceInspection;
 ghost use Rattle.octets.specs.Words.{_≡_};
 ghost use Rattle.octets.specs.Stores.{puts};
-ghost use Rattle.records.specs.Inspection.{tailLayout, zeroTail, inspectionCodec};
-ghost use Rattle.export.specs.View.{wide, numbers, soundImage, ViewDecoded, ViewEncoded};
+ghost use Rattle.records.specs.Inspection.{tailLayout, zeroTail};
+ghost use Rattle.export.specs.View.{soundImage, ViewDecoded, ViewEncoded};
 ghost use Rattle.export.specs.Views.{inspectionView};
-ghost use Rattle.export.specs.Steps.{ownOf, shown, written, part};
+ghost use Rattle.export.specs.Steps.{shown, written, begun};
 
 // The length of the fields.
 const FIELDS: usize = 88;
 
-// The flag, the current record and the mutation authority.
-fn show_front(bytes: &[u8], fields: &mut [u8])
-    ensures { λ r. ⌜ now (fields .exit) ≡ part (wide (inspectionView .slots)) (ownOf inspectionView (now (bytes .entry))) 0 6 0 (now (fields .entry)) ⌝ }
-{
-    octets::put_u64_le(fields, 0, octets::get_u8(bytes, 6) as u64);
-    octets::put_u64_le(fields, 8, octets::get_u32_le(bytes, 12) as u64);
-    octets::put_u64_le(fields, 16, octets::get_u64_le(bytes, 16));
-    octets::put_u64_le(fields, 24, octets::get_u64_le(bytes, 24));
-    octets::put_u64_le(fields, 32, octets::get_u64_le(bytes, 32));
-    octets::put_u64_le(fields, 40, octets::get_u64_le(bytes, 40));
-}
-
-// The cookie value.
-fn show_value(bytes: &[u8], fields: &mut [u8])
-    ensures { λ r. ⌜ now (fields .exit) ≡ part (wide (inspectionView .slots)) (ownOf inspectionView (now (bytes .entry))) 6 5 48 (now (fields .entry)) ⌝ }
-{
-    octets::put_u64_le(fields, 48, octets::get_u32_le(bytes, 52) as u64);
-    octets::put_u64_le(fields, 56, octets::get_u64_le(bytes, 56));
-    octets::put_u64_le(fields, 64, octets::get_u64_le(bytes, 64));
-    octets::put_u64_le(fields, 72, octets::get_u64_le(bytes, 72));
-    octets::put_u64_le(fields, 80, octets::get_u64_le(bytes, 80));
-}
-
+// The fields of bytes,
 fn show(bytes: &[u8], fields: &mut [u8])
     ensures { λ r. ⌜ now (fields .exit) ≡ shown inspectionView (now (bytes .entry)) (now (fields .entry)) ⌝ }
 {
-    show_front(bytes, fields);
-    show_value(bytes, fields);
+    crate::view::widen_one(bytes, 6, fields, 0);
+    crate::view::widen_four(bytes, 12, fields, 8);
+    crate::view::copy(bytes, 16, fields, 16, 4);
+    crate::view::widen_four(bytes, 52, fields, 48);
+    crate::view::copy(bytes, 56, fields, 56, 4);
 }
 
-// Mark, version, flag and the zero after it.
+// Mark, version, the first field and the zero after it.
 fn write_head(fields: &[u8], out: &mut [u8])
-    ensures { λ r. ⌜ now (out .exit) ≡ part (inspectionCodec .layout) (numbers inspectionView (now (fields .entry))) 0 4 0 (now (out .entry)) ⌝ }
+    ensures { λ r. ⌜ now (out .exit) ≡ begun inspectionView 4 (now (fields .entry)) (now (out .entry)) ⌝ }
 {
     octets::put_u32_be(out, 0, FenceInspection::MARK);
     octets::put_u16_le(out, 4, FenceInspection::VERSION);
-    crate::view::put_one(out, 6, octets::get_u64_le(fields, 0));
+    crate::view::narrow_one(fields, 0, out, 6);
     octets::put_u8(out, 7, 0);
-}
-
-// The current record and the mutation authority.
-fn write_front(fields: &[u8], out: &mut [u8])
-    ensures { λ r. ⌜ now (out .exit) ≡ part (inspectionCodec .layout) (numbers inspectionView (now (fields .entry))) 4 6 8 (now (out .entry)) ⌝ }
-{
-    octets::put_u32_le(out, 8, 0);
-    crate::view::put_four(out, 12, octets::get_u64_le(fields, 8));
-    octets::put_u64_le(out, 16, octets::get_u64_le(fields, 16));
-    octets::put_u64_le(out, 24, octets::get_u64_le(fields, 24));
-    octets::put_u64_le(out, 32, octets::get_u64_le(fields, 32));
-    octets::put_u64_le(out, 40, octets::get_u64_le(fields, 40));
-}
-
-// The cookie value.
-fn write_value(fields: &[u8], out: &mut [u8])
-    ensures { λ r. ⌜ now (out .exit) ≡ part (inspectionCodec .layout) (numbers inspectionView (now (fields .entry))) 10 6 48 (now (out .entry)) ⌝ }
-{
-    octets::put_u32_le(out, 48, 0);
-    crate::view::put_four(out, 52, octets::get_u64_le(fields, 48));
-    octets::put_u64_le(out, 56, octets::get_u64_le(fields, 56));
-    octets::put_u64_le(out, 64, octets::get_u64_le(fields, 64));
-    octets::put_u64_le(out, 72, octets::get_u64_le(fields, 72));
-    octets::put_u64_le(out, 80, octets::get_u64_le(fields, 80));
 }
 
 // The forty zeros at the end.
@@ -86,16 +43,21 @@ fn write_tail(out: &mut [u8])
     octets::put_u64_le(out, 120, 0);
 }
 
+// and the bytes of fields.
 fn write(fields: &[u8], out: &mut [u8])
     ensures { λ r. ⌜ now (out .exit) ≡ written inspectionView (now (fields .entry)) (now (out .entry)) ⌝ }
 {
     write_head(fields, out);
-    write_front(fields, out);
-    write_value(fields, out);
+    octets::put_u32_le(out, 8, 0);
+    crate::view::narrow_four(fields, 8, out, 12);
+    crate::view::copy(fields, 16, out, 16, 4);
+    octets::put_u32_le(out, 48, 0);
+    crate::view::narrow_four(fields, 48, out, 52);
+    crate::view::copy(fields, 56, out, 56, 4);
     write_tail(out);
 }
 
-// Whether the fields are a record: each fits its place, and the decoder takes the bytes that they give.
+// Whether fields are a record's: each fits its place, and the decoder takes the bytes that they give.
 fn is_sound(fields: &[u8]) -> bool
     ensures { λ r. ⌜ r ≡ soundImage inspectionView (now (fields .entry)) ⌝ }
 {

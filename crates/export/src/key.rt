@@ -8,21 +8,21 @@ ghost use Rattle.export.specs.Steps.{shown, written};
 // The length of the fields.
 const FIELDS: usize = 16;
 
+// The fields of bytes,
 fn show(bytes: &[u8], fields: &mut [u8])
     ensures { λ r. ⌜ now (fields .exit) ≡ shown keyView (now (bytes .entry)) (now (fields .entry)) ⌝ }
 {
-    octets::put_u64_le(fields, 0, octets::get_u64_le(bytes, 0));
-    octets::put_u64_le(fields, 8, octets::get_u64_le(bytes, 8));
+    crate::view::copy(bytes, 0, fields, 0, 2);
 }
 
+// and the bytes of fields.
 fn write(fields: &[u8], out: &mut [u8])
     ensures { λ r. ⌜ now (out .exit) ≡ written keyView (now (fields .entry)) (now (out .entry)) ⌝ }
 {
-    octets::put_u64_le(out, 0, octets::get_u64_le(fields, 0));
-    octets::put_u64_le(out, 8, octets::get_u64_le(fields, 8));
+    crate::view::copy(fields, 0, out, 0, 2);
 }
 
-// Whether the fields are a record: each fits its place, and the decoder takes the bytes that they give.
+// Whether fields are a record's: the decoder takes the bytes that they give.
 fn is_sound(fields: &[u8]) -> bool
     ensures { λ r. ⌜ r ≡ soundImage keyView (now (fields .entry)) ⌝ }
 {

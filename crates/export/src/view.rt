@@ -1,7 +1,8 @@
-// What the views of the records share: the zeros of a refusal, and fields narrower than eight bytes.
-ghost use Rattle.octets.specs.Words.{_≡_};
-ghost use Rattle.octets.specs.Octets.{put, leBytes, beBytes};
+// What the views of the records share: the zeros of a refusal, and numbers moved between a record's bytes and its fields.
+ghost use Rattle.octets.specs.Words.{_+_, _*_, _≤_, _≡_};
+ghost use Rattle.octets.specs.Octets.{octetsAt, le, be, put, leBytes, beBytes};
 ghost use Rattle.export.specs.View.{cleared};
+ghost use Rattle.export.specs.Steps.{copied};
 
 // Zeros in the first n bytes of a slice that has so many.
 pub(crate) fn clear(d: &mut [u8], n: usize)
@@ -17,23 +18,57 @@ pub(crate) fn clear(d: &mut [u8], n: usize)
     }
 }
 
-// The low bytes of a number, in a field of one byte,
-pub(crate) fn put_one(d: &mut [u8], at: usize, v: u64)
-    ensures { λ r. ⌜ now (d .exit) ≡ put (now (d .entry)) at (leBytes 1 v) ⌝ }
+// n numbers of eight bytes, from the place i of one slice to the place j of another.
+pub(crate) fn copy(s: &[u8], i: usize, d: &mut [u8], j: usize, n: usize)
+    requires { ⌜ (i + 8 * n ≤ 128) × (j + 8 * n ≤ 128) ⌝ }
+    ensures { λ r. ⌜ now (d .exit) ≡ copied n (now (s .entry)) i (now (d .entry)) j ⌝ }
 {
-    octets::put_u8(d, at, (v % 256) as u8);
+    let mut p = i;
+    let mut q = j;
+    let mut left = n;
+    while left != 0 {
+        octets::put_u64_le(d, q, octets::get_u64_le(s, p));
+        p += 8;
+        q += 8;
+        left -= 1;
+    }
 }
 
-// of two, most significant first,
-pub(crate) fn put_two_be(d: &mut [u8], at: usize, v: u64)
-    ensures { λ r. ⌜ now (d .exit) ≡ put (now (d .entry)) at (beBytes 2 v) ⌝ }
+// A number of one byte as one of eight, and back: of a wider one the low byte.
+pub(crate) fn widen_one(s: &[u8], i: usize, d: &mut [u8], j: usize)
+    ensures { λ r. ⌜ now (d .exit) ≡ put (now (d .entry)) j (leBytes 8 (le (octetsAt (now (s .entry)) i 1))) ⌝ }
 {
-    octets::put_u16_be(d, at, (v % 65536) as u16);
+    octets::put_u64_le(d, j, octets::get_u8(s, i) as u64);
 }
 
-// and of four.
-pub(crate) fn put_four(d: &mut [u8], at: usize, v: u64)
-    ensures { λ r. ⌜ now (d .exit) ≡ put (now (d .entry)) at (leBytes 4 v) ⌝ }
+pub(crate) fn narrow_one(s: &[u8], i: usize, d: &mut [u8], j: usize)
+    ensures { λ r. ⌜ now (d .exit) ≡ put (now (d .entry)) j (leBytes 1 (le (octetsAt (now (s .entry)) i 8))) ⌝ }
 {
-    octets::put_u32_le(d, at, (v % 4_294_967_296) as u32);
+    octets::put_u8(d, j, (octets::get_u64_le(s, i) % 256) as u8);
+}
+
+// The same of four bytes.
+pub(crate) fn widen_four(s: &[u8], i: usize, d: &mut [u8], j: usize)
+    ensures { λ r. ⌜ now (d .exit) ≡ put (now (d .entry)) j (leBytes 8 (le (octetsAt (now (s .entry)) i 4))) ⌝ }
+{
+    octets::put_u64_le(d, j, octets::get_u32_le(s, i) as u64);
+}
+
+pub(crate) fn narrow_four(s: &[u8], i: usize, d: &mut [u8], j: usize)
+    ensures { λ r. ⌜ now (d .exit) ≡ put (now (d .entry)) j (leBytes 4 (le (octetsAt (now (s .entry)) i 8))) ⌝ }
+{
+    octets::put_u32_le(d, j, (octets::get_u64_le(s, i) % 4_294_967_296) as u32);
+}
+
+// The same of a port: two bytes, most significant first.
+pub(crate) fn widen_port(s: &[u8], i: usize, d: &mut [u8], j: usize)
+    ensures { λ r. ⌜ now (d .exit) ≡ put (now (d .entry)) j (leBytes 8 (be (octetsAt (now (s .entry)) i 2))) ⌝ }
+{
+    octets::put_u64_le(d, j, octets::get_u16_be(s, i) as u64);
+}
+
+pub(crate) fn narrow_port(s: &[u8], i: usize, d: &mut [u8], j: usize)
+    ensures { λ r. ⌜ now (d .exit) ≡ put (now (d .entry)) j (beBytes 2 (le (octetsAt (now (s .entry)) i 8))) ⌝ }
+{
+    octets::put_u16_be(d, j, (octets::get_u64_le(s, i) % 65536) as u16);
 }

@@ -1,5 +1,6 @@
 -- `show`: one store for each field, in the order of the image. Assumes nothing.
 use Rattle.octets.proofs.Tools.{needs, free}
+use lib.Dec.{lit≤}
 use Rattle.export.proofs.config.show.Statement.{statement}
 use Rattle.export.proofs.config.show.Tie as tie
 
@@ -7,4 +8,4 @@ returns : tie.Need-returns
 returns c = cc
 
 pub show-spec : {M : Type 1} → statement M
-show-spec = tie.close (tie.spec free (λ c. search needs) free free (λ c. search needs) free free (λ c. search needs) free free free free free free free (λ c. search needs) returns)
+show-spec = tie.close (tie.spec free free free (λ c κs. (lit≤ tt, lit≤ tt)) (λ c. search needs) returns)

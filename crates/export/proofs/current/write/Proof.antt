@@ -1,5 +1,6 @@
 -- `write`: one store for each field, in the order of the layout. Assumes nothing.
 use Rattle.octets.proofs.Tools.{needs, free}
+use lib.Dec.{lit≤}
 use Rattle.export.proofs.current.write.Statement.{statement}
 use Rattle.export.proofs.current.write.Tie as tie
 
@@ -7,4 +8,4 @@ returns : tie.Need-returns
 returns c = cc
 
 pub write-spec : {M : Type 1} → statement M
-write-spec = tie.close (tie.spec free free free free free free free (λ c. search needs) returns)
+write-spec = tie.close (tie.spec free free (λ c κs. (lit≤ tt, lit≤ tt)) (λ c. search needs) returns)

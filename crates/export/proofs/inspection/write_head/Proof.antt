@@ -7,4 +7,4 @@ returns : tie.Need-returns
 returns c = cc
 
 pub write-head-spec : {M : Type 1} → statement M
-write-head-spec = tie.close (tie.spec free free free free free (λ c. search needs) returns)
+write-head-spec = tie.close (tie.spec free free free free (λ c. search needs) returns)

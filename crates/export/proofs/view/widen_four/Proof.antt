@@ -1,0 +1,10 @@
+-- `widen_four`: the number read is the number stored. Assumes nothing.
+use Rattle.octets.proofs.Tools.{needs, free}
+use Rattle.export.proofs.view.widen_four.Statement.{statement}
+use Rattle.export.proofs.view.widen_four.Tie as tie
+
+returns : tie.Need-returns
+returns c = cc
+
+pub widen-four-spec : {M : Type 1} → statement M
+widen-four-spec = tie.close (tie.spec free (λ c. search needs) free (λ c. search needs) returns)
