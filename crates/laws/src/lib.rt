@@ -24,4 +24,8 @@
 // - Isolation, demand 3. `isolated` in `gate/proofs/IsolationLaw.antt`, stated in `gate/specs/Isolation.antt`; with `alike`, two calls
 //   that it is about, and the gate that drops all, which is isolated and refused (`drops-all-is-isolated`, `drops-all-is-refused` in
 //   `Edges.antt`).
+// - The listing. Stated in `bundle/specs/Promises.antt`: one line for each packet (`lines-then-last`, `one-line-each` in `EachLine.antt`),
+//   numbers read back (`decimals-read-back`), earlier lines stay (`earlier-calls-stay`, `earlier-lines-stay` in `Earlier.antt`),
+//   isolation (`isolated-line`, `isolated-sheet`, `isolated-listing` in `IsolationLaw.antt`), no listing is longer than the judge's
+//   output (`no-longer` in `Bound.antt`), 01's case and the edges of frames (`case-listed`, `edges-listed` in `Case.antt`).
 // - Examples. `examples-hold` in `laws/proofs/Examples.antt`: the list that document 01 asks to be proved.
