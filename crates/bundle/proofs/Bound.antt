@@ -2,7 +2,7 @@
 -- line has at most 25 bytes, since an ordinal has at most five digits, a name at most fourteen letters, and the header count, at most
 -- four, and the slot one digit each; the last line has at most ten. Assumes nothing.
 use Rattle.octets.specs.Words.{ℕ, zero, suc, _+_, _*_, _-_, _/_, _%_, _^_, _<_, _≤_, _≡_, Bool, true, false, _&&_, List, [], _∷_, _++_, length, eqb, ltb, leb}
-use Rattle.octets.proofs.Tools.{refl, arith, lt-ltb, ltb-false, leb-true, leb-false}
+use Rattle.octets.proofs.Tools.{refl, arith, le-leb, lt-ltb, ltb-false, leb-true, leb-false}
 use native.Mathlib.Nat.{pow-suc}
 use lib.ListN.{length-append}
 use Rattle.records.specs.Config.{configCodec}
@@ -14,8 +14,8 @@ use Rattle.gate.specs.Gate.{Call, decodes, root, differs, answering, endpoint, 
 use Rattle.bundle.specs.Feed.{Ending, ended, bad, Feed, Step, stop, skip, emit, onward, runIn, run}
 use Rattle.bundle.specs.Frames.{frameAt, State, initial, stepOf, frameStep, leftAt, feedAt, bundleOf}
 use Rattle.bundle.specs.Text.{ascii, decimalIn, decimal}
-use Rattle.bundle.specs.Listing.{nameOf, slotText, line, lastLine, linesBy, sheet, verdictLine, longest, listing}
-use Rattle.bundle.specs.Promises.{longestListing, Bounded}
+use Rattle.bundle.specs.Listing.{nameOf, slotText, line, lastLine, linesBy, sheet, verdictLine, longest, listing, answerOf}
+use Rattle.bundle.specs.Promises.{longestListing, Bounded, RoomSuffices}
 use Rattle.bundle.specs.declared.frames.Frame.{Frame}
 use Rattle.bundle.specs.declared.frames.Frame.the-variants as frame
 use Rattle.bundle.proofs.Choices.{pick}
@@ -176,3 +176,9 @@ no-longer s =
     let h : length s ≤ 65_536 = ltb-false longest (length s) e in
     let f : 6 * length (bundleOf s .calls) ≤ length s = few-calls s in
     omega (arith, lines-most 0 (bundleOf s .calls) (bundleOf s .ending) (omega arith) (weaken (length s) (bundleOf s .ending) h (ends-inside s))))
+
+pub room-suffices : RoomSuffices
+unfolding answerOf
+room-suffices s room h =
+    let fits : length (listing s) ≤ room = omega (arith, no-longer s) in
+    rw (le-leb (length (listing s)) room fits)

@@ -5,7 +5,7 @@ use Rattle.gate.specs.Isolation.{Alike}
 use Rattle.bundle.specs.Feed.{Feed}
 use Rattle.bundle.specs.Frames.{bundleOf}
 use Rattle.bundle.specs.Text.{decimal}
-use Rattle.bundle.specs.Listing.{Line, lastLine, sheet, verdictLine, longest, listing}
+use Rattle.bundle.specs.Listing.{Line, lastLine, sheet, verdictLine, longest, listing, answerOf}
 
 -- ---- one line for each packet
 
@@ -73,9 +73,13 @@ IsolatedListing = (s t : List ℕ) → length s ≤ longest → length t ≤ lon
 
 -- ---- how long a listing is
 
--- no listing is longer, so that an output of this length always suffices
+-- no listing is longer
 abbrev pub longestListing : ℕ
 longestListing = 273_060
 
 abbrev pub Bounded : Type 0
 Bounded = (s : List ℕ) → length (listing s) ≤ longestListing
+
+-- so an output with this room always suffices: whoever lends it never sees number 4
+abbrev pub RoomSuffices : Type 0
+RoomSuffices = (s : List ℕ) (room : ℕ) → longestListing ≤ room → answerOf (listing s) room .number ≡ 0

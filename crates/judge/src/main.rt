@@ -5,7 +5,7 @@ use libc::STDIN_FILENO;
 use libc::STDOUT_FILENO;
 
 // One byte more than the longest bundle shows that there is more.
-const ENOUGH: usize = 65_537;
+const ENOUGH: usize = bundle::MAX_BUNDLE + 1;
 
 // Whether the input has ended. A read that failed is not the end: the next one fails too, or gives something.
 fn is_ended() -> bool {
