@@ -22,3 +22,10 @@ begun W n f d = puts (W .codec .layout) (take n (numbers W f)) d 0
 abbrev pub copied : ℕ → List ℕ → ℕ → List ℕ → ℕ → List ℕ
 copied zero s i d j = d
 copied (suc n) s i d j = copied n s (i + 8) (put d j (leBytes 8 (le (octetsAt s i 8)))) (j + 8)
+
+-- a record of four zeros, a control word and n numbers of eight octets: d with its own numbers, and d with its bytes
+abbrev pub controlShown : ℕ → List ℕ → List ℕ → List ℕ
+controlShown n s d = copied n s 8 (put d 0 (leBytes 8 (le (octetsAt s 4 4)))) 8
+
+abbrev pub controlWritten : ℕ → List ℕ → List ℕ → List ℕ
+controlWritten n f d = copied n f 8 (put (put d 0 (leBytes 4 0)) 4 (leBytes 4 (le (octetsAt f 0 8)))) 8

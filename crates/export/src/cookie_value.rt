@@ -3,27 +3,9 @@ use records::cookie_value::FenceCookieValue;
 ghost use Rattle.octets.specs.Words.{_≡_};
 ghost use Rattle.export.specs.View.{soundImage, ViewDecoded, ViewEncoded};
 ghost use Rattle.export.specs.Views.{cookieValueView};
-ghost use Rattle.export.specs.Steps.{shown, written};
 
 // The length of the fields.
 const FIELDS: usize = 40;
-
-// The fields of bytes,
-fn show(bytes: &[u8], fields: &mut [u8])
-    ensures { λ r. ⌜ now (fields .exit) ≡ shown cookieValueView (now (bytes .entry)) (now (fields .entry)) ⌝ }
-{
-    crate::view::widen_four(bytes, 4, fields, 0);
-    crate::view::copy(bytes, 8, fields, 8, 4);
-}
-
-// and the bytes of fields.
-fn write(fields: &[u8], out: &mut [u8])
-    ensures { λ r. ⌜ now (out .exit) ≡ written cookieValueView (now (fields .entry)) (now (out .entry)) ⌝ }
-{
-    octets::put_u32_le(out, 0, 0);
-    crate::view::narrow_four(fields, 0, out, 4);
-    crate::view::copy(fields, 8, out, 8, 4);
-}
 
 // Whether fields are a record's: each fits its place, and the decoder takes the bytes that they give.
 fn is_sound(fields: &[u8]) -> bool
@@ -33,7 +15,7 @@ fn is_sound(fields: &[u8]) -> bool
         return false;
     }
     let mut trial = [0u8; 40];
-    write(fields, &mut trial);
+    crate::view::write_control(fields, &mut trial, 4);
     FenceCookieValue::decode(&trial).number == 0
 }
 
@@ -50,7 +32,7 @@ pub extern "C" fn threadwicket_cookie_value_decode(bytes: &[u8], fields: &mut [u
     if fields.len() < FIELDS {
         return 4;
     }
-    show(bytes, fields);
+    crate::view::show_control(bytes, fields, 4);
     0
 }
 
@@ -66,6 +48,6 @@ pub extern "C" fn threadwicket_cookie_value_encode(fields: &[u8], bytes: &mut [u
     if number != 0 {
         return number;
     }
-    write(fields, bytes);
+    crate::view::write_control(fields, bytes, 4);
     0
 }

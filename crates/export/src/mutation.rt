@@ -3,31 +3,16 @@ use records::mutation::FenceMutationAuthority;
 ghost use Rattle.octets.specs.Words.{_≡_};
 ghost use Rattle.export.specs.View.{soundImage, ViewDecoded, ViewEncoded};
 ghost use Rattle.export.specs.Views.{mutationView};
-ghost use Rattle.export.specs.Steps.{shown, written};
 
 // The length of the fields.
 const FIELDS: usize = 16;
-
-// The fields of bytes,
-fn show(bytes: &[u8], fields: &mut [u8])
-    ensures { λ r. ⌜ now (fields .exit) ≡ shown mutationView (now (bytes .entry)) (now (fields .entry)) ⌝ }
-{
-    crate::view::copy(bytes, 0, fields, 0, 2);
-}
-
-// and the bytes of fields.
-fn write(fields: &[u8], out: &mut [u8])
-    ensures { λ r. ⌜ now (out .exit) ≡ written mutationView (now (fields .entry)) (now (out .entry)) ⌝ }
-{
-    crate::view::copy(fields, 0, out, 0, 2);
-}
 
 // Whether fields are a record's: the decoder takes the bytes that they give.
 fn is_sound(fields: &[u8]) -> bool
     ensures { λ r. ⌜ r ≡ soundImage mutationView (now (fields .entry)) ⌝ }
 {
     let mut trial = [0u8; 16];
-    write(fields, &mut trial);
+    crate::view::copy(fields, 0, &mut trial, 0, 2);
     FenceMutationAuthority::decode(&trial).number == 0
 }
 
@@ -44,7 +29,7 @@ pub extern "C" fn threadwicket_mutation_decode(bytes: &[u8], fields: &mut [u8]) 
     if fields.len() < FIELDS {
         return 4;
     }
-    show(bytes, fields);
+    crate::view::copy(bytes, 0, fields, 0, 2);
     0
 }
 
@@ -60,6 +45,6 @@ pub extern "C" fn threadwicket_mutation_encode(fields: &[u8], bytes: &mut [u8]) 
     if number != 0 {
         return number;
     }
-    write(fields, bytes);
+    crate::view::copy(fields, 0, bytes, 0, 2);
     0
 }

@@ -2,7 +2,7 @@
 ghost use Rattle.octets.specs.Words.{_+_, _*_, _≤_, _≡_};
 ghost use Rattle.octets.specs.Octets.{octetsAt, le, be, put, leBytes, beBytes};
 ghost use Rattle.export.specs.View.{cleared};
-ghost use Rattle.export.specs.Steps.{copied};
+ghost use Rattle.export.specs.Steps.{copied, controlShown, controlWritten};
 
 // Zeros in the first n bytes of a slice that has so many.
 pub(crate) fn clear(d: &mut [u8], n: usize)
@@ -71,4 +71,22 @@ pub(crate) fn narrow_port(s: &[u8], i: usize, d: &mut [u8], j: usize)
     ensures { λ r. ⌜ now (d .exit) ≡ put (now (d .entry)) j (beBytes 2 (le (octetsAt (now (s .entry)) i 8))) ⌝ }
 {
     octets::put_u16_be(d, j, (octets::get_u64_le(s, i) % 65536) as u16);
+}
+
+// A record of four zeros, a control word and n numbers: its fields from its bytes, and its bytes from its fields.
+pub(crate) fn show_control(bytes: &[u8], fields: &mut [u8], n: usize)
+    requires { ⌜ n ≤ 4 ⌝ }
+    ensures { λ r. ⌜ now (fields .exit) ≡ controlShown n (now (bytes .entry)) (now (fields .entry)) ⌝ }
+{
+    widen_four(bytes, 4, fields, 0);
+    copy(bytes, 8, fields, 8, n);
+}
+
+pub(crate) fn write_control(fields: &[u8], out: &mut [u8], n: usize)
+    requires { ⌜ n ≤ 4 ⌝ }
+    ensures { λ r. ⌜ now (out .exit) ≡ controlWritten n (now (fields .entry)) (now (out .entry)) ⌝ }
+{
+    octets::put_u32_le(out, 0, 0);
+    narrow_four(fields, 0, out, 4);
+    copy(fields, 8, out, 8, n);
 }

@@ -1,5 +1,6 @@
 -- `threadwicket_entry_encode`: the answers of every encoder from an image. Assumes nothing.
 use Rattle.octets.proofs.Tools.{refl, sym, _∙_, free}
+use lib.Dec.{lit≤}
 use Rattle.export.specs.Views.{entryView}
 use Rattle.export.proofs.ViewLaws.{encoded-length, encoded-refused, encoded-written}
 use Rattle.export.proofs.entry.threadwicket_entry_encode.Statement.{statement}
@@ -20,7 +21,7 @@ returns-3 c =
     let done = wrote .before .before in
     let numbered = done .before in
     let judged = numbered .before in
-    encoded-written entryView refl (judged .before .if1 .left) (judged .is-sound .ensures) (numbered .encode-number .ensures) (done .if2 .left) (wrote .write .ensures)
+    encoded-written entryView refl (judged .before .if1 .left) (judged .is-sound .ensures) (numbered .encode-number .ensures) (done .if2 .left) (wrote .write-control .ensures)
 
 pub threadwicket-entry-encode-spec : {M : Type 1} → statement M
-threadwicket-entry-encode-spec = tie.close (tie.spec returns free free returns-2 free (λ c. c .before .before .write .kept .1 .0) returns-3)
+threadwicket-entry-encode-spec = tie.close (tie.spec returns free free returns-2 (λ c κs. lit≤ tt) (λ c. c .before .before .write-control .kept .1 .0) returns-3)

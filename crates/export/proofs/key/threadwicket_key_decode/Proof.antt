@@ -1,5 +1,6 @@
 -- `threadwicket_key_decode`: the answers of every decoder into an image. Assumes nothing.
 use Rattle.octets.proofs.Tools.{sym, _∙_, free}
+use lib.Dec.{lit≤}
 use Rattle.records.proofs.KeyLaws.{Formed}
 use Rattle.export.specs.Views.{keyView}
 use Rattle.export.proofs.ViewLaws.{decoded-refused, decoded-short, decoded-shown}
@@ -22,9 +23,9 @@ returns-3 c =
     let read = roomy .before .before in
     let known = read .before .before in
     decoded-shown keyView Formed key-viewable (λ k. known .shared-slice-known .given k .fits)
-    (sym (read .decode .ensures .number) ∙ roomy .before .if1 .left) (roomy .if2 .left) (shown .show .ensures)
+    (sym (read .decode .ensures .number) ∙ roomy .before .if1 .left) (roomy .if2 .left) (shown .copy .ensures)
 
 pub threadwicket-key-decode-spec : {M : Type 1} → statement M
 threadwicket-key-decode-spec =
     tie.close
-    (tie.spec free free (λ c. c .before .before .clear .kept .0) returns returns-2 free (λ c. c .before .before .show .kept .1 .0) returns-3)
+    (tie.spec free free (λ c. c .before .before .clear .kept .0) returns returns-2 (λ c κs. (lit≤ tt, lit≤ tt)) (λ c. c .before .before .copy .kept .1 .1 .0) returns-3)

@@ -1,0 +1,10 @@
+-- `show_control`: the stores in their order. Assumes nothing.
+use Rattle.octets.proofs.Tools.{arith, needs, free}
+use Rattle.export.proofs.view.show_control.Statement.{statement}
+use Rattle.export.proofs.view.show_control.Tie as tie
+
+returns : tie.Need-returns
+returns c = cc
+
+pub show-control-spec : {M : Type 1} → statement M
+show-control-spec = tie.close (tie.spec free (λ c κs. search needs) (λ c. search needs) returns)
