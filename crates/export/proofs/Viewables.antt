@@ -1,15 +1,15 @@
 -- Each of the seven views obeys the laws of views: a slot for each field, and every record's fixed fields as the slots have them.
 -- Assumes nothing.
-use Rattle.octets.specs.Words.{_≡_}
+use Rattle.octets.specs.Words.{_^_, _<_, _≡_}
 use Rattle.octets.proofs.Tools.{refl}
 use Rattle.records.specs.declared.current.CurrentFenceToken.{CurrentFenceToken}
+use Rattle.records.specs.declared.key.FenceCookieKey.{FenceCookieKey}
 use Rattle.records.specs.declared.mutation.FenceMutationAuthority.{FenceMutationAuthority}
-use Rattle.records.specs.declared.inspection.InspectedEntry.{InspectedEntry}
-use Rattle.records.specs.declared.inspection.InspectedEntry.the-variants.{Absent, Present}
+use Rattle.records.specs.declared.inspected.InspectedEntry.{InspectedEntry}
+use Rattle.records.specs.declared.inspected.InspectedEntry.the-variants.{Absent, Present}
 use Rattle.records.specs.Inspection.{inspection, inspectionCodec}
 use Rattle.records.proofs.CurrentLaws as current
-use Rattle.records.proofs.MutationLaws as mutation
-use Rattle.records.proofs.KeyLaws as key
+use Rattle.records.proofs.PlainLaws as plain
 use Rattle.records.proofs.EntryLaws as entry
 use Rattle.records.proofs.CookieValueLaws as value
 use Rattle.records.proofs.ConfigLaws as config
@@ -21,11 +21,14 @@ use Rattle.export.proofs.ViewLaws.{Viewable}
 pub current-viewable : Viewable currentView current.Formed
 current-viewable = record { lawful = current.current-lawful; counted = refl; same = λ v. refl }
 
-pub mutation-viewable : Viewable mutationView mutation.Formed
-mutation-viewable = record { lawful = mutation.mutation-lawful; counted = refl; same = λ v. refl }
+pub mutation-viewable : Viewable mutationView plain.MutationFormed
+mutation-viewable = record { lawful = plain.mutation-lawful; counted = refl; same = λ v. refl }
 
-pub key-viewable : Viewable keyView key.Formed
-key-viewable = record { lawful = key.key-lawful; counted = refl; same = λ v. refl }
+abbrev pub KeyFormed : FenceCookieKey → Type 0
+KeyFormed v = (v .«socket_cookie» .0 < 2 ^ 64) × (v .«durable_fence_token» .0 < 2 ^ 64)
+
+pub key-viewable : Viewable keyView KeyFormed
+key-viewable = record { lawful = plain.key-lawful; counted = refl; same = λ v. refl }
 
 pub entry-viewable : Viewable entryView entry.Formed
 entry-viewable = record { lawful = entry.entry-lawful; counted = refl; same = λ v. refl }

@@ -1,10 +1,9 @@
 -- `threadwicket_key_decode`: the answers of every decoder into an image. Assumes nothing.
 use Rattle.octets.proofs.Tools.{sym, _∙_, free}
 use lib.Dec.{lit≤}
-use Rattle.records.proofs.KeyLaws.{Formed}
 use Rattle.export.specs.Views.{keyView}
 use Rattle.export.proofs.ViewLaws.{decoded-refused, decoded-short, decoded-shown}
-use Rattle.export.proofs.Viewables.{key-viewable}
+use Rattle.export.proofs.Viewables.{KeyFormed, key-viewable}
 use Rattle.export.proofs.key.threadwicket_key_decode.Statement.{statement}
 use Rattle.export.proofs.key.threadwicket_key_decode.Tie as tie
 
@@ -22,7 +21,7 @@ returns-3 c =
     let roomy = shown .before .before in
     let read = roomy .before .before in
     let known = read .before .before in
-    decoded-shown keyView Formed key-viewable (λ k. known .shared-slice-known .given k .fits)
+    decoded-shown keyView KeyFormed key-viewable (λ k. known .shared-slice-known .given k .fits)
     (sym (read .decode .ensures .number) ∙ roomy .before .if1 .left) (roomy .if2 .left) (shown .copy .ensures)
 
 pub threadwicket-key-decode-spec : {M : Type 1} → statement M

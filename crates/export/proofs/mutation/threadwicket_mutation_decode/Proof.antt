@@ -1,7 +1,7 @@
 -- `threadwicket_mutation_decode`: the answers of every decoder into an image. Assumes nothing.
 use Rattle.octets.proofs.Tools.{sym, _∙_, free}
 use lib.Dec.{lit≤}
-use Rattle.records.proofs.MutationLaws.{Formed}
+use Rattle.records.proofs.PlainLaws.{MutationFormed}
 use Rattle.export.specs.Views.{mutationView}
 use Rattle.export.proofs.ViewLaws.{decoded-refused, decoded-short, decoded-shown}
 use Rattle.export.proofs.Viewables.{mutation-viewable}
@@ -22,7 +22,7 @@ returns-3 c =
     let roomy = shown .before .before in
     let read = roomy .before .before in
     let known = read .before .before in
-    decoded-shown mutationView Formed mutation-viewable (λ k. known .shared-slice-known .given k .fits)
+    decoded-shown mutationView MutationFormed mutation-viewable (λ k. known .shared-slice-known .given k .fits)
     (sym (read .decode .ensures .number) ∙ roomy .before .if1 .left) (roomy .if2 .left) (shown .copy .ensures)
 
 pub threadwicket-mutation-decode-spec : {M : Type 1} → statement M
