@@ -3,3 +3,4 @@ pub mod Unique
 pub mod StoreLaws
 pub mod ViewLaws
 pub mod Viewables
+pub mod RoundTrips

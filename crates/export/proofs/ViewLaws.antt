@@ -14,9 +14,15 @@ use Rattle.octets.proofs.CodecLaws.{Lawful, and-left, and-right}
 use Rattle.export.specs.View.{Slot, own, fixed, View, pick, spread, wide, fitting, cleared, imageSize, image, viewDecodeNumber, viewDecodeOut, numbers, soundImage, viewEncodeNumber, viewEncodeOut, ViewDecoded, ViewEncoded}
 use Rattle.export.specs.Steps.{shown, written}
 
+-- no field is wider than eight octets
+abbrev pub eightAtMost : List Field → Bool
+eightAtMost [] = true
+eightAtMost (f ∷ fs) = leb (width f) 8 && eightAtMost fs
+
 pub record Viewable {R : Type 0} (W : View R) (Formed : R → Type 0) : Type 0 where
   pub lawful : Lawful (W .codec) Formed
   pub counted : length (W .slots) ≡ length (W .codec .layout)
+  pub narrow : eightAtMost (W .codec .layout) ≡ true
   pub same : (v : R) → spread (W .slots) (pick (W .slots) (W .codec .fields v)) ≡ W .codec .fields v
 
 -- ---- numbers
@@ -68,7 +74,7 @@ module _ {R : Type 0} (W : View R) {s out : List ℕ} where
   decoded-short e h = record { number = simp (eq-eqb _ _ e, lt-leb _ _ h); output = simp (eq-eqb _ _ e, lt-leb _ _ h) }
 
 -- of two tests that answer 2 and 1 where they fail, 0 says that both hold
-both-hold : (a b : Bool) → _≡_ {A = ℕ} (cond a (cond b 0 2) 1) 0 → (a ≡ true) × (b ≡ true)
+pub both-hold : (a b : Bool) → _≡_ {A = ℕ} (cond a (cond b 0 2) 1) 0 → (a ≡ true) × (b ≡ true)
 both-hold true true e = (refl, refl)
 both-hold true false e = absurd (omega arith)
 both-hold false b e = absurd (omega arith)
@@ -96,13 +102,13 @@ module _ {R : Type 0} (W : View R) (Formed : R → Type 0) (L : Viewable W Forme
 
 -- ---- encoding
 
--- an encoder that answers 0 has the room
-done-room : (b : Bool) (len room : ℕ) → encodeAnswer b len room ≡ 0 → len ≤ room
+-- an encoder that answers 0 has a sound record and the room
+pub done-both : (b : Bool) (len room : ℕ) → encodeAnswer b len room ≡ 0 → (b ≡ true) × (len ≤ room)
 unfolding encodeAnswer
-done-room b len room z = leb-true _ _ (answered b (leb len room) z)
+done-both b len room z = let both = answered b (leb len room) z in (both .0, leb-true _ _ (both .1))
   where
-    answered : (a b : Bool) → _≡_ {A = ℕ} (cond a (cond b 0 4) 3) 0 → b ≡ true
-    answered true true z = refl
+    answered : (a b : Bool) → _≡_ {A = ℕ} (cond a (cond b 0 4) 3) 0 → (a ≡ true) × (b ≡ true)
+    answered true true z = (refl, refl)
     answered true false z = absurd (omega arith)
     answered false b z = absurd (omega arith)
 
@@ -111,7 +117,7 @@ is-zero true = refl
 is-zero false = refl
 
 -- the decoder takes the bytes of numbers that fit where they obey the rule
-taken : {R : Type 0} (C : Codec R) (vs : List ℕ) → length vs ≡ length (C .layout) → Fit (C .layout) vs → eqb (decodeNumber C (laid (C .layout) vs)) 0 ≡ C .ok vs
+pub taken : {R : Type 0} (C : Codec R) (vs : List ℕ) → length vs ≡ length (C .layout) → Fit (C .layout) vs → eqb (decodeNumber C (laid (C .layout) vs)) 0 ≡ C .ok vs
 unfolding decodeNumber
 taken C vs count fit = simp (eq-eqb _ _ (length-laid (C .layout) vs count), fields-laid (C .layout) vs fit) (is-zero (C .ok vs))
 
@@ -135,7 +141,7 @@ module _ {R : Type 0} (W : View R) {f out : List ℕ} where
   encoded-written counted e s q n0 p =
       let z = sym (q ∙ ap (λ (b : Bool). encodeAnswer b (size (W .codec .layout)) (length out)) s) ∙ n0 in
       let count = length-spread (W .slots) (fieldsAt (wide (W .slots)) f 0) ∙ counted in
-      let room = done-room (soundImage W f) (size (W .codec .layout)) (length out) z in
+      let room = done-both (soundImage W f) (size (W .codec .layout)) (length out) z .1 in
       let there = puts-laid (W .codec .layout) (numbers W f) out 0 ∙ put-laid (W .codec .layout) (numbers W f) out count room in
       record { number = simp (eq-eqb _ _ e, z); output = simp (eq-eqb _ _ e, z) (p ∙ there) }
 

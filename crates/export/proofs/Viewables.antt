@@ -19,25 +19,25 @@ use Rattle.export.specs.Views.{currentView, mutationView, keyView, entry
 use Rattle.export.proofs.ViewLaws.{Viewable}
 
 pub current-viewable : Viewable currentView current.Formed
-current-viewable = record { lawful = current.current-lawful; counted = refl; same = λ v. refl }
+current-viewable = record { lawful = current.current-lawful; counted = refl; narrow = refl; same = λ v. refl }
 
 pub mutation-viewable : Viewable mutationView plain.MutationFormed
-mutation-viewable = record { lawful = plain.mutation-lawful; counted = refl; same = λ v. refl }
+mutation-viewable = record { lawful = plain.mutation-lawful; counted = refl; narrow = refl; same = λ v. refl }
 
 abbrev pub KeyFormed : FenceCookieKey → Type 0
 KeyFormed v = (v .«socket_cookie» .0 < 2 ^ 64) × (v .«durable_fence_token» .0 < 2 ^ 64)
 
 pub key-viewable : Viewable keyView KeyFormed
-key-viewable = record { lawful = plain.key-lawful; counted = refl; same = λ v. refl }
+key-viewable = record { lawful = plain.key-lawful; counted = refl; narrow = refl; same = λ v. refl }
 
 pub entry-viewable : Viewable entryView entry.Formed
-entry-viewable = record { lawful = entry.entry-lawful; counted = refl; same = λ v. refl }
+entry-viewable = record { lawful = entry.entry-lawful; counted = refl; narrow = refl; same = λ v. refl }
 
 pub cookie-value-viewable : Viewable cookieValueView value.Formed
-cookie-value-viewable = record { lawful = value.cookie-value-lawful; counted = refl; same = λ v. refl }
+cookie-value-viewable = record { lawful = value.cookie-value-lawful; counted = refl; narrow = refl; same = λ v. refl }
 
 pub config-viewable : Viewable configView config.Formed
-config-viewable = record { lawful = config.config-lawful; counted = refl; same = λ v. refl }
+config-viewable = record { lawful = config.config-lawful; counted = refl; narrow = refl; same = λ v. refl }
 
 same-cases : (c : CurrentFenceToken) (m : FenceMutationAuthority) (e : InspectedEntry) →
     spread (inspectionView .slots) (pick (inspectionView .slots) (inspectionCodec .fields (inspection c m e))) ≡ inspectionCodec .fields (inspection c m e)
@@ -45,4 +45,4 @@ same-cases c m Absent = refl
 same-cases c m (Present v) = refl
 
 pub inspection-viewable : Viewable inspectionView inspected.Formed
-inspection-viewable = record { lawful = inspected.inspection-lawful; counted = refl; same = λ v. same-cases (v .current) (v .mutation) (v .entry) }
+inspection-viewable = record { lawful = inspected.inspection-lawful; counted = refl; narrow = refl; same = λ v. same-cases (v .current) (v .mutation) (v .entry) }
