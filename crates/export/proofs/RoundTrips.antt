@@ -1,17 +1,16 @@
 -- There and back, once for every view: fields that decoding gives encode to the same bytes, and bytes that encoding gives decode to the
 -- same fields. By the laws of codecs and layouts: numbers are back from their octets, and octets from their numbers. Assumes nothing.
-use Rattle.octets.specs.Words.{ℕ, zero, suc, _%_, _/_, _^_, _<_, _≤_, _≡_, Bool, true, false, cond, List, [], _∷_, _++_, reverse, length, drop, eqb, ltb, leb}
+use Rattle.octets.specs.Words.{ℕ, zero, suc, _/_, _^_, _<_, _≤_, _≡_, Bool, true, false, cond, List, [], _∷_, _++_, reverse, length, drop, eqb, leb}
 use Rattle.octets.proofs.Tools.{refl, sym, ap, _∙_, arith, eq-eqb, lt-ltb, le-leb, eqb-true, leb-true}
 use lib.Dec.{lit<}
-use mathlib.Core.Path.{subst}
 use native.Mathlib.Nat.{pow-le-pow-right, lt-of-lt-of-le}
 use lib.ListN.{length-reverse}
 use Rattle.octets.specs.Octets.{Bytes, octetsAt, le, be, leBytes, beBytes}
 use Rattle.octets.specs.Layout.{Field, little, big, width, numberOf, bytesOf, size, fieldsAt, laid, Fit}
-use Rattle.octets.specs.Codec.{Codec, decodeNumber, decodeValue, encodeAnswer}
+use Rattle.octets.specs.Codec.{decodeNumber, decodeValue, encodeAnswer}
 use Rattle.octets.proofs.OctetsLaws.{length-octets, le-below, Bytes-octets, Bytes-append, Bytes-reverse}
-use Rattle.octets.proofs.LayoutLaws.{laid-fields, fields-laid, length-laid, fit-length}
-use Rattle.octets.proofs.CodecLaws.{Lawful, accepted, and-left, and-right}
+use Rattle.octets.proofs.LayoutLaws.{laid-fields, fields-laid, length-laid}
+use Rattle.octets.proofs.CodecLaws.{and-left, and-right}
 use Rattle.export.specs.View.{Slot, own, fixed, View, pick, spread, wide, fitting, imageSize, image, numbers, soundImage, viewEncodeNumber, viewEncodeOut}
 use Rattle.export.proofs.ViewLaws.{Viewable, pick-spread, length-spread, length-pick, length-fields, fit-fitting, told, taken, both-hold, done-both, eightAtMost}
 

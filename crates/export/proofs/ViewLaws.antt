@@ -1,9 +1,11 @@
 -- The laws of every view, proved once: the answers of the two functions that a view has, by the ways through their code. A view owes
 -- `Viewable`: its codec's laws, a slot for each field, and that its fixed fields are those of every record. Assumes nothing.
-use Rattle.octets.specs.Words.{ℕ, suc, _^_, _<_, _≤_, _≡_, Bool, true, false, cond, _&&_, List, [], _∷_, _++_, length, drop, replicate, eqb, ltb, leb}
-use Rattle.octets.proofs.Tools.{refl, sym, ap, _∙_, true≢false, arith, eq-eqb, ne-eqb, lt-ltb, le-leb, lt-leb, eqb-true, ltb-true, leb-true}
+use Rattle.octets.specs.Words.{ℕ, zero, suc, _-_, _^_, _<_, _≤_, _≡_, Bool, true, false, cond, _&&_, List, [], _∷_, _++_, length, drop, replicate, eqb, ltb, leb}
+use Rattle.octets.proofs.Tools.{refl, sym, ap, _∙_, arith, eq-eqb, ne-eqb, lt-ltb, le-ltb, le-leb, lt-leb, ltb-true, leb-true}
 use lib.ListN.{length-replicate, drop-of-length-le}
 use mathlib.Core.List.{append-nil}
+use native.Mathlib.Nat.{pow-suc}
+use lib.Dec.{lit<}
 use Rattle.octets.specs.Octets.{Bytes, octetsAt, le}
 use Rattle.octets.specs.Layout.{Field, width, size, fieldsAt, laid, Fit}
 use Rattle.octets.specs.Stores.{puts}
@@ -11,7 +13,7 @@ use Rattle.octets.specs.Codec.{Codec, decodeNumber, decodeValue, encodeAnswer}
 use Rattle.octets.proofs.OctetsLaws.{length-octets, le-below, Bytes-octets}
 use Rattle.octets.proofs.LayoutLaws.{fields-laid, length-laid, puts-laid, put-laid}
 use Rattle.octets.proofs.CodecLaws.{Lawful, and-left, and-right}
-use Rattle.export.specs.View.{Slot, own, fixed, View, pick, spread, wide, fitting, cleared, imageSize, image, viewDecodeNumber, viewDecodeOut, numbers, soundImage, viewEncodeNumber, viewEncodeOut, ViewDecoded, ViewEncoded}
+use Rattle.export.specs.View.{Slot, own, fixed, View, pick, spread, wide, fitting, cleared, imageSize, viewDecodeNumber, viewDecodeOut, numbers, soundImage, viewEncodeNumber, viewEncodeOut, ViewDecoded, ViewEncoded}
 use Rattle.export.specs.Steps.{shown, written}
 
 -- no field is wider than eight octets
@@ -56,9 +58,19 @@ fit-fitting [] (v ∷ vs) e h = absurd (omega arith)
 fit-fitting (f ∷ fs) [] e h = absurd (omega arith)
 fit-fitting (f ∷ fs) (v ∷ vs) e h = (ltb-true _ _ (and-left _ _ h), fit-fitting fs vs (omega arith) (and-right (ltb v (256 ^ width f)) _ h))
 
--- a number of eight octets fits a field of eight
-pub eight : (s : List ℕ) (at : ℕ) → Bytes s → ltb (le (octetsAt s at 8)) (256 ^ 8) ≡ true
-eight s at h = lt-ltb _ _ (rw length-octets at (le-below (octetsAt s at 8) (Bytes-octets s at 8 h)))
+-- a number of eight octets fits a field of eight; another number r, which is v, by its test
+pub eight : (s : List ℕ) → Bytes s → (at : ℕ) → ltb (le (octetsAt s at 8)) (256 ^ 8) ≡ true
+eight s h at = lt-ltb _ _ (rw length-octets at (le-below (octetsAt s at 8) (Bytes-octets s at 8 h)))
+
+pow-pos : (n : ℕ) → 0 < 256 ^ n
+pow-pos zero = lit< tt
+pow-pos (suc n) = rw pow-suc (let h : 0 < 256 ^ n = pow-pos n in omega arith)
+
+pub within : (w : ℕ) {r v : ℕ} → r ≡ v → r ≤ 256 ^ w - 1 → ltb v (256 ^ w) ≡ true
+within w {r} {v} e h = let p = pow-pos w in lt-ltb v (256 ^ w) (omega arith)
+
+pub beyond : (w : ℕ) {r v : ℕ} → r ≡ v → 256 ^ w - 1 < r → ltb v (256 ^ w) ≡ false
+beyond w {r} {v} e h = le-ltb v (256 ^ w) (omega arith)
 
 -- ---- decoding
 

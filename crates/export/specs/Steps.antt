@@ -1,8 +1,8 @@
 -- What the functions inside a view are held to: a layout stored field by field. What the exported functions promise does not rest on it:
 -- the octets that stand in the end are those of `laid`. Assumes nothing.
-use Rattle.octets.specs.Words.{ℕ, zero, suc, _+_, List, take, drop}
+use Rattle.octets.specs.Words.{ℕ, zero, suc, _+_, List, take}
 use Rattle.octets.specs.Octets.{octetsAt, le, leBytes, put}
-use Rattle.octets.specs.Layout.{Field, fieldsAt}
+use Rattle.octets.specs.Layout.{fieldsAt}
 use Rattle.octets.specs.Stores.{puts}
 use Rattle.export.specs.View.{View, pick, wide, numbers}
 

@@ -1,6 +1,6 @@
 -- The views of the seven records: which fields of document 01's 'Record layouts' are a record's own numbers. Marks, versions and zeros
 -- are not. Assumes nothing.
-use Rattle.octets.specs.Words.{List, [], _∷_, _++_}
+use Rattle.octets.specs.Words.{[], _∷_, _++_}
 use Rattle.records.specs.declared.current.CurrentFenceToken.{CurrentFenceToken}
 use Rattle.records.specs.declared.mutation.FenceMutationAuthority.{FenceMutationAuthority}
 use Rattle.records.specs.declared.key.FenceCookieKey.{FenceCookieKey}
@@ -15,7 +15,7 @@ use Rattle.records.specs.Entry.{entryCodec}
 use Rattle.records.specs.CookieValue.{cookieValueCodec}
 use Rattle.records.specs.Config.{configMark, configCodec}
 use Rattle.records.specs.Inspection.{inspectionMark, inspectionCodec}
-use Rattle.export.specs.View.{Slot, own, fixed, View}
+use Rattle.export.specs.View.{own, fixed, View}
 
 -- control, token, cookie
 abbrev pub currentView : View CurrentFenceToken

@@ -1,5 +1,5 @@
 -- `threadwicket_config_encode`: the answers of every encoder from an image. Assumes nothing.
-use Rattle.octets.proofs.Tools.{refl, sym, _∙_, free}
+use Rattle.octets.proofs.Tools.{refl, free}
 use Rattle.export.specs.Views.{configView}
 use Rattle.export.proofs.ViewLaws.{encoded-length, encoded-refused, encoded-written}
 use Rattle.export.proofs.config.threadwicket_config_encode.Statement.{statement}

@@ -1,28 +1,28 @@
 -- `is_sound`: a number that is too wide for its field is refused, and the decoder judges the rest. Assumes nothing.
-use Rattle.octets.specs.Words.{_^_, _≡_, true, false, ltb}
-use Rattle.octets.specs.Octets.{octetsAt, le}
-use Rattle.octets.proofs.Tools.{refl, arith, needs, free, lt-ltb, le-ltb}
+use Rattle.octets.specs.Words.{_≡_, true}
+use Rattle.octets.proofs.Tools.{refl, needs, free}
 use lib.Dec.{lit≤}
 use Rattle.export.specs.View.{fitting, numbers, soundImage}
 use Rattle.export.specs.Views.{cookieValueView}
-use Rattle.export.proofs.ViewLaws.{eight, on-trial}
+use Rattle.export.proofs.ViewLaws.{eight, within, beyond, on-trial}
 use Rattle.export.proofs.cookie_value.is_sound.Statement.{statement}
 use Rattle.export.proofs.cookie_value.is_sound.Tie as tie
 
 returns : tie.Need-returns
 unfolding soundImage
-returns c =
-    let f = c .before .before .before .args .fields .now in
-    let t1 : ltb (le (octetsAt f 0 8)) (256 ^ 4) ≡ false = le-ltb (le (octetsAt f 0 8)) (256 ^ 4) (omega (arith, c .before .get-u64-le .ensures)) in
-    simp (t1)
+returns c = simp (beyond 4 (c .before .get-u64-le .ensures) (c .if1 .taken))
 
 returns-2 : tie.Need-returns-2
 returns-2 c =
-    let f = c .before .before .before .before .before .before .before .before .before .args .fields .now in
-    let t1 : ltb (le (octetsAt f 0 8)) (256 ^ 4) ≡ true = lt-ltb (le (octetsAt f 0 8)) (256 ^ 4) (omega (arith, c .before .before .before .before .before .before .before .get-u64-le .ensures)) in
-    let known = c .before .before .before .before .before .before .before .before .shared-slice-known .given in
-    let fits : fitting (cookieValueView .codec .layout) (numbers cookieValueView f) ≡ true = simp (t1, eight f 8 (λ k. known k .fits), eight f 16 (λ k. known k .fits), eight f 24 (λ k. known k .fits), eight f 32 (λ k. known k .fits)) in
-    on-trial cookieValueView f refl fits (c .before .before .before .before .write-control .ensures) (c .before .decode .ensures .number)
+    let wrote = c .before .before .before .before in
+    let tested = wrote .before .before in
+    let known = tested .before .before in
+    let f = known .before .args .fields .now in
+    let fits : fitting (cookieValueView .codec .layout) (numbers cookieValueView f) ≡ true = simp (
+      within 4 (tested .before .get-u64-le .ensures) (tested .if1 .left),
+      eight f (λ k. known .shared-slice-known .given k .fits),
+    ) in
+    on-trial cookieValueView f refl fits (wrote .write-control .ensures) (c .before .decode .ensures .number)
 
 pub is-sound-spec : {M : Type 1} → statement M
 is-sound-spec = tie.close (tie.spec free returns (λ c. search needs) (λ c κs. lit≤ tt) (λ c. search needs) free returns-2)

@@ -1,5 +1,5 @@
 -- `threadwicket_mutation_encode`: the answers of every encoder from an image. Assumes nothing.
-use Rattle.octets.proofs.Tools.{refl, sym, _∙_, free}
+use Rattle.octets.proofs.Tools.{refl, free}
 use lib.Dec.{lit≤}
 use Rattle.export.specs.Views.{mutationView}
 use Rattle.export.proofs.ViewLaws.{encoded-length, encoded-refused, encoded-written}

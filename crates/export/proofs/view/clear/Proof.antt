@@ -1,13 +1,11 @@
 -- `clear`: after i turns the slice is i zeros and then what it was. Assumes nothing.
-use Rattle.octets.specs.Words.{ℕ, _-_, _<_, _≤_, _≡_, _++_, length, drop, replicate}
-use Rattle.octets.proofs.Tools.{refl, sym, ap, _∙_, arith, needs, lt-leb, le-leb}
+use Rattle.octets.specs.Words.{_-_, _<_, _≤_, _≡_, _++_, length, drop, replicate}
+use Rattle.octets.proofs.Tools.{arith, needs, lt-leb, le-leb}
 use lib.ListN.{length-set}
 use Rattle.export.specs.View.{cleared}
 use Rattle.export.proofs.StoreLaws.{clear-step}
 use Rattle.export.proofs.view.clear.Statement.{statement}
 use Rattle.export.proofs.view.clear.Tie as tie
-use Rattle.export.proofs.view.clear.Reads as reads
-use Rattle.export.proofs.view.clear.Lts as lts
 
 abbrev Inv-loop : tie.InvT-loop
 Inv-loop d₀ n i₀ d i = (i ≤ n) × (n ≤ length d₀) × (length d ≡ length d₀) × (d ≡ replicate i 0 ++ drop i d₀)

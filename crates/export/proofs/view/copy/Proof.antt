@@ -5,8 +5,6 @@ use Rattle.export.specs.Steps.{copied}
 use Rattle.export.proofs.StoreLaws.{copy-step}
 use Rattle.export.proofs.view.copy.Statement.{statement}
 use Rattle.export.proofs.view.copy.Tie as tie
-use Rattle.export.proofs.view.copy.Reads as reads
-use Rattle.export.proofs.view.copy.Lts as lts
 
 abbrev Inv-loop : tie.InvT-loop
 Inv-loop s i d₀ j n p₀ q₀ left₀ d p q left =

@@ -3,8 +3,6 @@ use Rattle.octets.proofs.Tools.{needs, free}
 use Rattle.octets.proofs.OctetsLaws.{leBytes-mod}
 use Rattle.export.proofs.view.narrow_four.Statement.{statement}
 use Rattle.export.proofs.view.narrow_four.Tie as tie
-use Rattle.export.proofs.view.narrow_four.Reads as reads
-use Rattle.export.proofs.view.narrow_four.Lts as lts
 
 returns : tie.Need-returns
 returns c = cc (leBytes-mod 4 (c .before .before .before .get-u64-le .result))

@@ -3,8 +3,6 @@ use Rattle.octets.proofs.Tools.{needs, free}
 use Rattle.octets.proofs.OctetsLaws.{leBytes-mod}
 use Rattle.export.proofs.view.narrow_one.Statement.{statement}
 use Rattle.export.proofs.view.narrow_one.Tie as tie
-use Rattle.export.proofs.view.narrow_one.Reads as reads
-use Rattle.export.proofs.view.narrow_one.Lts as lts
 
 returns : tie.Need-returns
 returns c = cc (leBytes-mod 1 (c .before .before .before .get-u64-le .result))

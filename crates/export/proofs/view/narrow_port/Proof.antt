@@ -3,8 +3,6 @@ use Rattle.octets.proofs.Tools.{needs, free}
 use Rattle.export.proofs.StoreLaws.{beBytes-mod}
 use Rattle.export.proofs.view.narrow_port.Statement.{statement}
 use Rattle.export.proofs.view.narrow_port.Tie as tie
-use Rattle.export.proofs.view.narrow_port.Reads as reads
-use Rattle.export.proofs.view.narrow_port.Lts as lts
 
 returns : tie.Need-returns
 returns c = cc (beBytes-mod 2 (c .before .before .before .get-u64-le .result))

@@ -1,5 +1,5 @@
 -- `write_control`: the stores in their order. Assumes nothing.
-use Rattle.octets.proofs.Tools.{arith, needs, free}
+use Rattle.octets.proofs.Tools.{needs, free}
 use Rattle.export.proofs.view.write_control.Statement.{statement}
 use Rattle.export.proofs.view.write_control.Tie as tie
 
