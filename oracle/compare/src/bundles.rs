@@ -2,16 +2,16 @@
 //! compares what it writes with the plain listing, byte for byte. Every verdict, every header count and every fault must occur.
 
 use crate::rng::Rng;
+use crate::stream::start;
 use crate::suites::gate::{allowed, perturb, Asked};
 use crate::suites::packet::{self, random_chain};
 use crate::suites::Amount;
-use plain::{listing, put_frame, LONGEST_BUNDLE};
+use plain::{listing, put_frame, rules, LONGEST_BUNDLE};
 use std::collections::BTreeMap;
 use std::io::Write;
-use std::process::{Command, Stdio};
 use std::time::{Duration, Instant};
 
-/// What must occur: in a line of a listing a verdict and a header count, in its last line the end, and each fault.
+/// What must occur: in a line of a listing a verdict, the rule that gave it and a header count; in its last line the end, and each fault.
 const OUTCOMES: &[&str] = &[
     "PassUnrelated",
     "Allow",
@@ -21,6 +21,19 @@ const OUTCOMES: &[&str] = &[
     "DropExpired",
     "DropMalformed",
     "DropStaleToken",
+    "rule 1",
+    "rule 2",
+    "rule 3",
+    "rule 4",
+    "rule 5",
+    "rule 6",
+    // rule 7 answers for no bundle: its table is whole records, and fewer than 4,096
+    "rule 8",
+    "rule 9",
+    "rule 10",
+    "rule 11",
+    "rule 12",
+    "rule 13",
     "0 headers",
     "1 headers",
     "2 headers",
@@ -158,12 +171,7 @@ fn at_the_limit() -> Vec<Bundle> {
 
 /// What the program writes, and whether it ended well.
 fn listed(bundle: &Bundle, command: &[&str]) -> Result<Vec<u8>, String> {
-    let mut child = Command::new(command[0])
-        .args(&command[1..])
-        .stdin(Stdio::piped())
-        .stdout(Stdio::piped())
-        .spawn()
-        .map_err(|error| format!("{} cannot be started: {error}", command[0]))?;
+    let mut child = start(command)?;
     let mut to = child.stdin.take().expect("the child's input is a pipe");
     let (bytes, piece) = (bundle.bytes.clone(), bundle.piece);
     let writer = std::thread::spawn(move || {
@@ -187,7 +195,12 @@ fn listed(bundle: &Bundle, command: &[&str]) -> Result<Vec<u8>, String> {
 }
 
 /// Counts what a listing shows.
-fn count(tally: &mut BTreeMap<String, u64>, text: &[u8], ending: &str) {
+fn count(tally: &mut BTreeMap<String, u64>, bundle: &Bundle, text: &[u8]) {
+    if bundle.bytes.len() <= LONGEST_BUNDLE {
+        for rule in rules(&bundle.bytes) {
+            *tally.entry(format!("rule {rule}")).or_default() += 1;
+        }
+    }
     for line in String::from_utf8_lossy(text).lines() {
         let words: Vec<&str> = line.split(' ').collect();
         if let [_, verdict, headers, _] = words.as_slice() {
@@ -195,7 +208,7 @@ fn count(tally: &mut BTreeMap<String, u64>, text: &[u8], ending: &str) {
             *tally.entry(format!("{headers} headers")).or_default() += 1;
         }
     }
-    *tally.entry(ending.to_string()).or_default() += 1;
+    *tally.entry(bundle.ending.to_string()).or_default() += 1;
 }
 
 fn random_bundle(rng: &mut Rng) -> Bundle {
@@ -215,7 +228,7 @@ pub fn compare(amount: Amount, command: &[&str]) -> Result<(), String> {
     let mut differences = 0u64;
     for bundle in &bundles {
         let expected = listing(&bundle.bytes);
-        count(&mut tally, &expected, bundle.ending);
+        count(&mut tally, bundle, &expected);
         let got = listed(bundle, command)?;
         if got != expected {
             differences += 1;

@@ -8,7 +8,7 @@ use crate::suites::{Amount, Sink, Suite, SUITES};
 use std::collections::BTreeMap;
 use std::fs::File;
 use std::io::{BufWriter, Read, Write};
-use std::process::{ChildStdin, ChildStdout, Command, Stdio};
+use std::process::{Child, ChildStdin, ChildStdout, Command, Stdio};
 use std::sync::mpsc::{channel, sync_channel, Receiver, SyncSender};
 use std::time::{Duration, Instant};
 
@@ -127,14 +127,19 @@ impl Answers {
     }
 }
 
-pub fn compare(suite: &'static Suite, amount: Amount, command: &[&str]) -> Result<(), String> {
-    let began = Instant::now();
-    let mut child = Command::new(command[0])
+/// Starts the other process, with pipes for its input and output.
+pub fn start(command: &[&str]) -> Result<Child, String> {
+    Command::new(command[0])
         .args(&command[1..])
         .stdin(Stdio::piped())
         .stdout(Stdio::piped())
         .spawn()
-        .map_err(|error| format!("{} cannot be started: {error}", command[0]))?;
+        .map_err(|error| format!("{} cannot be started: {error}", command[0]))
+}
+
+pub fn compare(suite: &'static Suite, amount: Amount, command: &[&str]) -> Result<(), String> {
+    let began = Instant::now();
+    let mut child = start(command)?;
     let to = child.stdin.take().expect("the child's input is a pipe");
     let mut from = Answers::new(child.stdout.take().expect("the child's output is a pipe"));
     let (on, blocks) = sync_channel::<Block>(16);

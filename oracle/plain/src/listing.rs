@@ -1,6 +1,6 @@
 //! The listing of a bundle (01, 'The bundle and its listing').
 
-use crate::{gate_with_headers, Call, Socket};
+use crate::{gate_with_headers, Call, Judged, Socket};
 use opc_egress_fence_common::FenceVerdict;
 
 /// The longest bundle that is read.
@@ -21,6 +21,27 @@ pub fn listing(bundle: &[u8]) -> Vec<u8> {
         out.extend(b"long\n");
         return out;
     }
+    let mut packets = 0;
+    let read = read(bundle, |state, packet| {
+        line(&mut out, packets, &judge(state, packet));
+        packets += 1;
+    });
+    match read {
+        Ok(()) => last_line(&mut out, b"end ", packets),
+        Err(at) => last_line(&mut out, b"bad ", at),
+    }
+    out
+}
+
+/// The number of the rule that answers for each packet of a bundle that is not too long.
+pub fn rules(bundle: &[u8]) -> Vec<u8> {
+    let mut rules = Vec::new();
+    let _ = read(bundle, |state, packet| rules.push(judge(state, packet).0.rule));
+    rules
+}
+
+/// Reads the frames, and hands on each packet with what is in force; the offset of the first frame that is bad, if one is.
+fn read<'a>(bundle: &'a [u8], mut packet: impl FnMut(&InForce<'a>, &'a [u8])) -> Result<(), usize> {
     let mut state = InForce {
         config: &[0; 40],
         current: &[0; 24],
@@ -28,30 +49,19 @@ pub fn listing(bundle: &[u8]) -> Vec<u8> {
         table: Vec::new(),
     };
     let mut at = 0;
-    let mut packets = 0;
     while at < bundle.len() {
-        let Some((kind, body)) = frame(&bundle[at..]) else {
-            last_line(&mut out, b"bad ", at);
-            return out;
-        };
+        let (kind, body) = frame(&bundle[at..]).ok_or(at)?;
         match (kind, body.len()) {
             (1, 40) => state.config = body,
             (2, 24) => state.current = body,
             (3, 40) => state.table.extend_from_slice(body),
             (4, 43) => state.call = body,
-            (5, _) => {
-                line(&mut out, packets, &state, body);
-                packets += 1;
-            }
-            _ => {
-                last_line(&mut out, b"bad ", at);
-                return out;
-            }
+            (5, _) => packet(&state, body),
+            _ => return Err(at),
         }
         at += 6 + body.len();
     }
-    last_line(&mut out, b"end ", packets);
-    out
+    Ok(())
 }
 
 /// Appends a frame to a bundle.
@@ -69,10 +79,10 @@ fn frame(bytes: &[u8]) -> Option<(u16, &[u8])> {
     Some((u16::from_le_bytes(*kind), body))
 }
 
-fn line(out: &mut Vec<u8>, ordinal: usize, state: &InForce, packet: &[u8]) {
+fn judge(state: &InForce, packet: &[u8]) -> (Judged, u8) {
     let call = state.call;
     let number = |at: usize| u64::from_le_bytes(call[at..at + 8].try_into().expect("eight bytes"));
-    let (judged, headers) = gate_with_headers(&Call {
+    gate_with_headers(&Call {
         config: state.config,
         attachment: number(0),
         socket: Socket {
@@ -85,7 +95,10 @@ fn line(out: &mut Vec<u8>, ordinal: usize, state: &InForce, packet: &[u8]) {
         current: state.current,
         table: &state.table,
         now: number(35),
-    });
+    })
+}
+
+fn line(out: &mut Vec<u8>, ordinal: usize, (judged, headers): &(Judged, u8)) {
     decimal(out, ordinal);
     out.push(b' ');
     out.extend(name(judged.verdict));
