@@ -12,7 +12,7 @@ use Rattle.gate.specs.Gate as gate
 use Rattle.gate.specs.declared.GateAnswer.{GateAnswer}
 use Rattle.bundle.specs.Feed.{Feed, ended, bad, skip, onward}
 use Rattle.bundle.specs.Frames.{bodyAt, past, callOf, initial, frameAt, stepOf, feedAt, bundleOf}
-use Rattle.bundle.specs.Text.{Wrote}
+use Rattle.bundle.specs.Steps.{Wrote}
 use Rattle.bundle.specs.Listing.{Line, line, lastLine, linesBy, sheet, verdictLine, listing, answerOf, outputOf, Lists}
 use Rattle.bundle.specs.Steps.{held, stateOf, placeOf}
 use Rattle.bundle.specs.declared.frames.Frame.{Frame}

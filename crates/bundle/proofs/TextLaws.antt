@@ -7,7 +7,8 @@ use lib.ListN.{length-append, length-set, length-drop, drop-of-length-le}
 use lib.Seq.{take-suc, take-suc-set, take-all, length-take-le, drop-set-lt, drop-cons, getD-set-same, append-snoc, drop-drop, take-at}
 use Rattle.octets.specs.Octets.{put}
 use Rattle.octets.proofs.OctetsLaws.{put-append, put-past, put-in, length-put}
-use Rattle.bundle.specs.Text.{decimalIn, decimal, Wrote}
+use Rattle.bundle.specs.Text.{decimalIn, decimal}
+use Rattle.bundle.specs.Steps.{Wrote}
 use Rattle.bundle.proofs.Choices.{pick}
 
 -- one law for all lines: a text, and then another at the place after it

@@ -1,7 +1,7 @@
--- What the inner functions of `bundle` are held to: a cursor, and the state that it stands for. What a bundle means is in `Frames` and
--- does not rest on this. Assumes nothing.
-use Rattle.octets.specs.Words.{ℕ, _+_, cond, List, length, take, replicate, leb}
-use Rattle.octets.specs.Octets.{octetsAt}
+-- What the inner functions of `bundle` are held to: a cursor and the state that it stands for, and text written at a place. What a
+-- bundle means is in `Frames` and `Listing`, which do not rest on this. Assumes nothing.
+use Rattle.octets.specs.Words.{ℕ, _+_, _≡_, cond, List, length, take, replicate, leb}
+use Rattle.octets.specs.Octets.{octetsAt, put}
 use Rattle.bundle.specs.Frames.{State, Place}
 use Rattle.bundle.specs.declared.frames.Cursor.{Cursor}
 
@@ -15,3 +15,8 @@ stateOf s t c = record { config = held s (c .config) 40; current = held s (c .cu
 
 abbrev pub placeOf : List ℕ → List ℕ → Cursor → Place
 placeOf s t c = record { at = c .at; state = stateOf s t c }
+
+-- d′ is d with a text at a place, so far as d reaches, and r is the place after the text
+pub record Wrote (d : List ℕ) (at : ℕ) (text d′ : List ℕ) (r : ℕ) : Type 0 where
+  pub bytes : d′ ≡ put d at text
+  pub past : r ≡ at + length text

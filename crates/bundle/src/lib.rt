@@ -7,7 +7,7 @@ use frames::Cursor;
 use frames::Frame;
 ghost use Rattle.octets.specs.Words.{_≤_, _≡_, length, leb};
 ghost use Rattle.bundle.specs.Frames.{bundleOf};
-ghost use Rattle.bundle.specs.Text.{Wrote};
+ghost use Rattle.bundle.specs.Steps.{Wrote};
 ghost use Rattle.bundle.specs.Listing.{sheet, verdictLine, listing, Lists};
 
 // The longest bundle.

@@ -4,7 +4,8 @@ use gate::GateAnswer;
 use verdict::CounterSlot;
 use verdict::FenceVerdict;
 ghost use Rattle.octets.specs.Words.{_+_, _≤_, _<_, _≡_, _++_, length};
-ghost use Rattle.bundle.specs.Text.{Wrote, ascii, decimal};
+ghost use Rattle.bundle.specs.Text.{ascii, decimal};
+ghost use Rattle.bundle.specs.Steps.{Wrote};
 ghost use Rattle.bundle.specs.Listing.{nameOf, slotText, line};
 
 // The verdict's name, with a space on each side.

@@ -2,7 +2,8 @@
 // same functions write a text and measure it.
 ghost use Rattle.octets.specs.Words.{_+_, _≤_, _<_, _≡_, [], _∷_, length, drop};
 ghost use Rattle.octets.specs.Octets.{put};
-ghost use Rattle.bundle.specs.Text.{Wrote, decimal};
+ghost use Rattle.bundle.specs.Text.{decimal};
+ghost use Rattle.bundle.specs.Steps.{Wrote};
 
 pub(crate) fn put_byte(out: &mut [u8], at: usize, byte: u8) -> usize
     requires { ⌜ at < 4294967296 ⌝ }

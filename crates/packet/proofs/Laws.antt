@@ -9,7 +9,8 @@ use Rattle.octets.specs.Octets.{Bytes, octetsAt, le, sameOctets}
 use Rattle.packet.specs.declared.PacketEndpointDisposition.{PacketEndpointDisposition}
 use Rattle.packet.specs.declared.Step.{Step}
 use Rattle.packet.specs.declared.Step.the-variants.{Stop, Pass}
-use Rattle.packet.specs.Answers.{dispositionNumber, outcomeOf}
+use Rattle.packet.specs.Answers.{dispositionNumber}
+use Rattle.packet.specs.Steps.{outcomeOf}
 use Rattle.packet.specs.Reading.{Answer, Outcome, settled, onward, follow, sortOf, byClass, countedOf, fragmentOf, stepOf, stop, passed, walkOf}
 
 -- ---- the sorting, as a `match` with its groups tells it

@@ -5,4 +5,5 @@ pub mod Rfc8200
 pub mod Rfc4302
 pub mod Reading
 pub mod Answers
+pub mod Steps
 pub mod Places

@@ -7,7 +7,8 @@ ghost use Rattle.octets.specs.Words.{_+_, _*_, _≤_, _≡_, cond, _||_, eqb, l
 ghost use Rattle.octets.specs.Octets.{octetsAt, sameOctets};
 ghost use Rattle.packet.specs.Rfc791.{source as source4};
 ghost use Rattle.packet.specs.Rfc8200.{source as source6, lengthByte};
-ghost use Rattle.packet.specs.Answers.{dispositionNumber, answerOf, classNumber, outcomeOf, Walked};
+ghost use Rattle.packet.specs.Answers.{dispositionNumber, answerOf};
+ghost use Rattle.packet.specs.Steps.{classNumber, outcomeOf, Walked};
 ghost use Rattle.packet.specs.Reading.{unrelated, indeterminate, stop, sortOf, udpOf, passOf, countedOf, fragmentOf, stepOf, walkOf, ipv4Of, ipv6Of, known, classifyOf};
 
 pub enum PacketEndpointDisposition {
