@@ -2,11 +2,11 @@
 // accepted record its encoding. 24 to 30 have an output's length and a record's bytes: the record is decoded and encoded again into an
 // output of that length, which holds a5 throughout; the answer is the number and the output.
 use crate::fields;
+use inspection::FenceInspection;
 use records::config::FenceConfig;
 use records::cookie_value::FenceCookieValue;
 use records::current::CurrentFenceToken;
 use records::entry::FenceEntry;
-use records::inspection::FenceInspection;
 use records::key::FenceCookieKey;
 use records::mutation::FenceMutationAuthority;
 ghost use Rattle.octets.specs.Words.{_≤_};

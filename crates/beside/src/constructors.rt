@@ -2,13 +2,13 @@
 // as its bytes, which are decoded first.
 use crate::fields;
 use crate::leaves;
+use inspection::FenceInspection;
+use inspection::InspectionAnswer;
+use inspection::inspected::InspectedEntry;
 use records::config::FenceConfig;
 use records::cookie_value::FenceCookieValue;
 use records::current::CurrentFenceToken;
 use records::entry::FenceEntry;
-use records::inspected::InspectedEntry;
-use records::inspection::FenceInspection;
-use records::inspection::InspectionAnswer;
 use records::key::FenceCookieKey;
 use records::mutation::FenceMutationAuthority;
 use units::BootNs;

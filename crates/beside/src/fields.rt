@@ -1,12 +1,12 @@
 // The fields of each record, by their accessors, as an answer has them.
 use endpoint::ProtectedEndpoint;
+use inspection::FenceInspection;
+use inspection::inspected::InspectedEntry;
 use records::config::FenceConfig;
 use records::cookie_value::FenceCookieValue;
 use records::current::CurrentFenceToken;
 use records::entry::FenceEntry;
 use records::entry::FenceEntryState;
-use records::inspected::InspectedEntry;
-use records::inspection::FenceInspection;
 use records::key::FenceCookieKey;
 use records::mutation::FenceMutationAuthority;
 ghost use Rattle.octets.specs.Words.{_≤_};

@@ -48,8 +48,8 @@ threadwicket-config-decode-determined κs a x y u v p q = (p .number ∙ sym (q 
 pub threadwicket-config-encode-determined : Determined the.config.threadwicket_config_encode.Kinds.ps the.config.threadwicket_config_encode.Kinds.r the.config.threadwicket_config_encode.Reads.Learnt
 threadwicket-config-encode-determined κs a x y u v p q = (p .number ∙ sym (q .number), λ i. (u .0, ((p .output ∙ sym (q .output)) i, u .1 .1)))
 
-pub threadwicket-inspection-decode-determined : Determined the.inspection.threadwicket_inspection_decode.Kinds.ps the.inspection.threadwicket_inspection_decode.Kinds.r the.inspection.threadwicket_inspection_decode.Reads.Learnt
+pub threadwicket-inspection-decode-determined : Determined the.inspection_view.threadwicket_inspection_decode.Kinds.ps the.inspection_view.threadwicket_inspection_decode.Kinds.r the.inspection_view.threadwicket_inspection_decode.Reads.Learnt
 threadwicket-inspection-decode-determined κs a x y u v p q = (p .number ∙ sym (q .number), λ i. (u .0, ((p .output ∙ sym (q .output)) i, u .1 .1)))
 
-pub threadwicket-inspection-encode-determined : Determined the.inspection.threadwicket_inspection_encode.Kinds.ps the.inspection.threadwicket_inspection_encode.Kinds.r the.inspection.threadwicket_inspection_encode.Reads.Learnt
+pub threadwicket-inspection-encode-determined : Determined the.inspection_view.threadwicket_inspection_encode.Kinds.ps the.inspection_view.threadwicket_inspection_encode.Kinds.r the.inspection_view.threadwicket_inspection_encode.Reads.Learnt
 threadwicket-inspection-encode-determined κs a x y u v p q = (p .number ∙ sym (q .number), λ i. (u .0, ((p .output ∙ sym (q .output)) i, u .1 .1)))

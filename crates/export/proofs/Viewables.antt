@@ -5,15 +5,15 @@ use Rattle.octets.proofs.Tools.{refl}
 use Rattle.records.specs.declared.current.CurrentFenceToken.{CurrentFenceToken}
 use Rattle.records.specs.declared.key.FenceCookieKey.{FenceCookieKey}
 use Rattle.records.specs.declared.mutation.FenceMutationAuthority.{FenceMutationAuthority}
-use Rattle.records.specs.declared.inspected.InspectedEntry.{InspectedEntry}
-use Rattle.records.specs.declared.inspected.InspectedEntry.the-variants.{Absent, Present}
-use Rattle.records.specs.Inspection.{inspection, inspectionCodec}
+use Rattle.inspection.specs.declared.inspected.InspectedEntry.{InspectedEntry}
+use Rattle.inspection.specs.declared.inspected.InspectedEntry.the-variants.{Absent, Present}
+use Rattle.inspection.specs.Inspection.{inspection, inspectionCodec}
 use Rattle.records.proofs.CurrentLaws as current
 use Rattle.records.proofs.PlainLaws as plain
 use Rattle.records.proofs.EntryLaws as entry
 use Rattle.records.proofs.CookieValueLaws as value
 use Rattle.records.proofs.ConfigLaws as config
-use Rattle.records.proofs.InspectionLaws as inspected
+use Rattle.inspection.proofs.InspectionLaws as inspected
 use Rattle.export.specs.View.{pick, spread}
 use Rattle.export.specs.Views.{currentView, mutationView, keyView, entryView, cookieValueView, configView, inspectionView}
 use Rattle.export.proofs.ViewLaws.{Viewable}

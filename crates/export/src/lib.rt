@@ -5,7 +5,7 @@ mod config;
 mod cookie_value;
 mod current;
 mod entry;
-mod inspection;
+mod inspection_view;
 mod key;
 mod mutation;
 mod view;

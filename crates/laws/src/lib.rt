@@ -8,10 +8,10 @@
 //   `be-parts`, `put-parts`, `put-parts-be`).
 // - Codecs, over the record. `octets/proofs/CodecLaws.antt`: accepted bytes encode to themselves and only sound records are given
 //   (`accepted`), sound records decode to themselves (`kept`), and an unsound record is given for no bytes (`never`). Each record
-//   shows what these ask of it, `Lawful`, in `records/proofs`: `current-lawful`, `mutation-lawful`, `key-lawful`, `entry-lawful`,
-//   `cookie-value-lawful`, `config-lawful`, `inspection-lawful`.
+//   shows what these ask of it, `Lawful`, in `records/proofs` and `inspection/proofs`: `current-lawful`, `mutation-lawful`, `key-lawful`,
+//   `entry-lawful`, `cookie-value-lawful`, `config-lawful`, `inspection-lawful`.
 // - Uniqueness. `Unique.antt` in each crate's `proofs`: the answer of every public function is its contract's alone
-//   (`FUNCTION-determined`), and no two cases of an enum have one number (`decision-injective`, `disposition-injective`,
+//   (`FUNCTION-determined`, `RECORD-determined`), and no two cases of an enum have one number (`decision-injective`, `disposition-injective`,
 //   `slot-injective`).
 // - Reading a packet. `packet/proofs`: 0 to 4 headers are passed (`count-at-most-4` in `Count.antt`), the sorting of the next-header
 //   value covers each of 256 values once (`sorted-once` in `Sorting.antt`), and a packet's answer depends on its named places alone

@@ -5,5 +5,4 @@ pub mod EntryLaws
 pub mod CookieValueLaws
 pub mod AddressLaws
 pub mod ConfigLaws
-pub mod InspectionLaws
 pub mod Unique

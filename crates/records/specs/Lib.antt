@@ -6,5 +6,3 @@ pub mod Current
 pub mod Entry
 pub mod CookieValue
 pub mod Config
-pub mod Inspected
-pub mod Inspection

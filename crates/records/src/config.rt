@@ -10,7 +10,6 @@ pub struct FenceConfig {
     pub capacity: u32,
 }
 
-// What a constructor or the decoder answers: 0 and the record, or a refusal's number and the all-zero record.
 pub struct ConfigAnswer {
     pub number: u32,
     pub value: FenceConfig,

@@ -17,7 +17,6 @@ pub struct FenceCookieValue {
     pub control_epoch: ControlEpoch,
 }
 
-// What a constructor or the decoder answers: 0 and the record, or a refusal's number and the all-zero record.
 pub struct CookieValueAnswer {
     pub number: u32,
     pub value: FenceCookieValue,
@@ -52,7 +51,7 @@ fn answer(
 }
 
 // What the six numbers of the layout give.
-pub(crate) fn from_fields(
+pub fn from_fields(
     zeros: u32,
     control: u32,
     cookie: u64,

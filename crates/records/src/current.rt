@@ -10,7 +10,6 @@ pub struct CurrentFenceToken {
     pub retirement_closed: bool,
 }
 
-// What a constructor or the decoder answers: 0 and the record, or a refusal's number and the all-zero record.
 pub struct CurrentAnswer {
     pub number: u32,
     pub value: CurrentFenceToken,
@@ -44,7 +43,7 @@ fn answer(number: u32, token: u64, cookie: u64, retirement_closed: bool) -> Curr
 }
 
 // What the four numbers of the layout give.
-pub(crate) fn from_fields(zeros: u32, control: u32, token: u64, cookie: u64) -> CurrentAnswer
+pub fn from_fields(zeros: u32, control: u32, token: u64, cookie: u64) -> CurrentAnswer
     ensures { λ r. ⌜ Built currentCodec (zeros ∷ control ∷ token ∷ cookie ∷ []) (r .number) (r .value) ⌝ }
 {
     if rule(zeros, control, token, cookie) {
@@ -138,7 +137,7 @@ impl CurrentFenceToken {
         (self.durable_fence_token.0 != 0) & self.retirement_closed
     }
 
-    pub(crate) fn control(self) -> u32
+    pub fn control(self) -> u32
         ensures { λ r. ⌜ r ≡ currentControl self ⌝ }
     {
         let token = self.durable_fence_token;

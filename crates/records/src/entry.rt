@@ -23,7 +23,6 @@ pub struct FenceEntry {
     pub control_epoch: ControlEpoch,
 }
 
-// What a constructor or the decoder answers: 0 and the record, or a refusal's number and the all-zero record.
 pub struct EntryAnswer {
     pub number: u32,
     pub value: FenceEntry,

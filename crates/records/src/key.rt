@@ -9,7 +9,6 @@ pub struct FenceCookieKey {
     pub durable_fence_token: DurableFenceToken,
 }
 
-// What a constructor or the decoder answers: 0 and the record, or a refusal's number and the all-zero record.
 pub struct KeyAnswer {
     pub number: u32,
     pub value: FenceCookieKey,

@@ -7,7 +7,6 @@ pub struct FenceMutationAuthority {
     pub in_flight_claim: u64,
 }
 
-// What a constructor or the decoder answers: 0 and the record, or a refusal's number and the all-zero record.
 pub struct MutationAnswer {
     pub number: u32,
     pub value: FenceMutationAuthority,

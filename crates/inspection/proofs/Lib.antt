@@ -1,0 +1,3 @@
+-- What is shown of `inspection` beside the proofs of its functions. Assumes nothing.
+pub mod InspectionLaws
+pub mod Unique
