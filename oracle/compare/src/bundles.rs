@@ -5,22 +5,16 @@ use crate::rng::Rng;
 use crate::stream::start;
 use crate::suites::gate::{allowed, perturb, Asked};
 use crate::suites::packet::{self, random_chain};
+use crate::suites::verdict::VERDICTS;
 use crate::suites::Amount;
 use plain::{listing, put_frame, rules, LONGEST_BUNDLE};
 use std::collections::BTreeMap;
 use std::io::Write;
 use std::time::{Duration, Instant};
 
-/// What must occur: in a line of a listing a verdict, the rule that gave it and a header count; in its last line the end, and each fault.
+/// What must occur besides every verdict: in a line of a listing the rule that answered and a header count; in its last line the end, and
+/// each fault.
 const OUTCOMES: &[&str] = &[
-    "PassUnrelated",
-    "Allow",
-    "DropCookieZero",
-    "DropMissing",
-    "DropClosed",
-    "DropExpired",
-    "DropMalformed",
-    "DropStaleToken",
     "rule 1",
     "rule 2",
     "rule 3",
@@ -244,10 +238,11 @@ pub fn compare(amount: Amount, command: &[&str]) -> Result<(), String> {
         bundles.len(),
         began.elapsed().as_secs_f64()
     );
-    for outcome in OUTCOMES {
+    let outcomes = || VERDICTS.iter().chain(OUTCOMES);
+    for outcome in outcomes() {
         println!("  {outcome}: {}", tally.get(*outcome).copied().unwrap_or(0));
     }
-    if let Some(missing) = OUTCOMES.iter().find(|outcome| !tally.contains_key(**outcome)) {
+    if let Some(missing) = outcomes().find(|outcome| !tally.contains_key(**outcome)) {
         return Err(format!("the outcome {missing} never occurred"));
     }
     if differences > 0 {

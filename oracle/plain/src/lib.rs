@@ -6,7 +6,7 @@ mod headers;
 mod listing;
 
 pub use headers::headers_passed;
-pub use listing::{listing, put_frame, rules, LONGEST_BUNDLE};
+pub use listing::{listing, put_frame, rules, verdict_name, LONGEST_BUNDLE};
 use opc_egress_fence_common::*;
 
 /// The longest table: 4,096 records of 40 bytes.

@@ -101,7 +101,7 @@ fn judge(state: &InForce, packet: &[u8]) -> (Judged, u8) {
 fn line(out: &mut Vec<u8>, ordinal: usize, (judged, headers): &(Judged, u8)) {
     decimal(out, ordinal);
     out.push(b' ');
-    out.extend(name(judged.verdict));
+    out.extend(verdict_name(judged.verdict).as_bytes());
     out.push(b' ');
     out.push(b'0' + headers);
     out.push(b' ');
@@ -130,15 +130,16 @@ fn decimal(out: &mut Vec<u8>, number: usize) {
     out.extend(&digits[from..]);
 }
 
-fn name(verdict: FenceVerdict) -> &'static [u8] {
+/// A verdict as a listing names it.
+pub fn verdict_name(verdict: FenceVerdict) -> &'static str {
     match verdict {
-        FenceVerdict::Allow => b"Allow",
-        FenceVerdict::PassUnrelated => b"PassUnrelated",
-        FenceVerdict::DropCookieZero => b"DropCookieZero",
-        FenceVerdict::DropMissing => b"DropMissing",
-        FenceVerdict::DropClosed => b"DropClosed",
-        FenceVerdict::DropExpired => b"DropExpired",
-        FenceVerdict::DropMalformed => b"DropMalformed",
-        FenceVerdict::DropStaleToken => b"DropStaleToken",
+        FenceVerdict::Allow => "Allow",
+        FenceVerdict::PassUnrelated => "PassUnrelated",
+        FenceVerdict::DropCookieZero => "DropCookieZero",
+        FenceVerdict::DropMissing => "DropMissing",
+        FenceVerdict::DropClosed => "DropClosed",
+        FenceVerdict::DropExpired => "DropExpired",
+        FenceVerdict::DropMalformed => "DropMalformed",
+        FenceVerdict::DropStaleToken => "DropStaleToken",
     }
 }

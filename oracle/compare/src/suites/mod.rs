@@ -6,7 +6,7 @@ mod endpoint;
 pub mod gate;
 pub mod packet;
 mod records;
-mod verdict;
+pub mod verdict;
 
 /// How much of a suite is run: a sample, in the gate, or all of it, before a landing.
 #[derive(Clone, Copy, PartialEq, Eq)]

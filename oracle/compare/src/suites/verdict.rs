@@ -6,37 +6,28 @@ use super::records::{edge, odd, sound_entry, state};
 use super::{Amount, Sink, Suite};
 use crate::rng::Rng;
 use opc_egress_fence_common::*;
+use plain::verdict_name;
 
 const KIND: u8 = 48;
+
+/// The verdicts, as a listing names them.
+pub const VERDICTS: [&str; 8] = [
+    "PassUnrelated",
+    "Allow",
+    "DropCookieZero",
+    "DropMissing",
+    "DropClosed",
+    "DropExpired",
+    "DropStaleToken",
+    "DropMalformed",
+];
 
 pub const SUITE: Suite = Suite {
     name: "verdict",
     what: "decide_egress, counter_slot and must_drop",
-    outcomes: &[
-        "PassUnrelated",
-        "Allow",
-        "DropCookieZero",
-        "DropMissing",
-        "DropClosed",
-        "DropExpired",
-        "DropStaleToken",
-        "DropMalformed",
-    ],
+    outcomes: &VERDICTS,
     run,
 };
-
-pub fn name(verdict: FenceVerdict) -> &'static str {
-    match verdict {
-        FenceVerdict::PassUnrelated => "PassUnrelated",
-        FenceVerdict::Allow => "Allow",
-        FenceVerdict::DropCookieZero => "DropCookieZero",
-        FenceVerdict::DropMissing => "DropMissing",
-        FenceVerdict::DropClosed => "DropClosed",
-        FenceVerdict::DropExpired => "DropExpired",
-        FenceVerdict::DropStaleToken => "DropStaleToken",
-        FenceVerdict::DropMalformed => "DropMalformed",
-    }
-}
 
 /// A verdict as an answer has it: its slot, ff where it has none, and whether the packet must be dropped.
 pub fn answer(verdict: FenceVerdict) -> [u8; 2] {
@@ -81,7 +72,7 @@ fn ask(sink: &mut dyn Sink, it: Asked) {
             .chain([it.token, it.registered, it.now])
             .flat_map(u64::to_le_bytes),
     );
-    sink.push(KIND, &body, &answer(verdict), name(verdict));
+    sink.push(KIND, &body, &answer(verdict), verdict_name(verdict));
 }
 
 /// An entry of each kind, with tokens and deadlines that the other fields take as well; and none.
