@@ -40,11 +40,11 @@ pub struct GateAnswer {
 // ---- the search
 
 // Whether a cookie value stands under a key: its cookie is at 8, its token at 16.
-fn is_under(bytes: &[u8], cookie: u64, token: u64) -> bool
-    ensures { λ r. ⌜ r ≡ isUnder cookie token (now (bytes .entry)) ⌝ }
+fn is_under(bytes: &[u8], cookie: SocketCookie, token: DurableFenceToken) -> bool
+    ensures { λ r. ⌜ r ≡ isUnder (cookie .0) (token .0) (now (bytes .entry)) ⌝ }
 {
-    if octets::get_u64_le(bytes, 8) == cookie {
-        return octets::get_u64_le(bytes, 16) == token;
+    if octets::get_u64_le(bytes, 8) == cookie.0 {
+        return octets::get_u64_le(bytes, 16) == token.0;
     }
     false
 }
@@ -53,8 +53,6 @@ fn is_under(bytes: &[u8], cookie: u64, token: u64) -> bool
 pub fn find_record(table: &[u8], cookie: SocketCookie, token: DurableFenceToken) -> &[u8]
     ensures { λ r. ⌜ now r ≡ firstOf (under (cookie .0) (token .0) (records (now (table .entry)))) ⌝ }
 {
-    let k = cookie.0;
-    let t = token.0;
     if table.len() < FenceCookieValue::LEN {
         return &table[..0];
     }
@@ -62,7 +60,7 @@ pub fn find_record(table: &[u8], cookie: SocketCookie, token: DurableFenceToken)
     let mut at = 0;
     while at <= last {
         let one = &table[at..at + FenceCookieValue::LEN];
-        if is_under(one, k, t) {
+        if is_under(one, cookie, token) {
             return one;
         }
         at += FenceCookieValue::LEN;

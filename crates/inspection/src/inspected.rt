@@ -1,5 +1,9 @@
 // The inner entry of an inspection: a flag at byte 6, and a cookie value or zeros from byte 48 on.
 use records::cookie_value::FenceCookieValue;
+use units::BootNs;
+use units::ControlEpoch;
+use units::DurableFenceToken;
+use units::SocketCookie;
 ghost use Rattle.records.specs.Words.{_≡_, [], _∷_, octetsAt, le, allZero, fieldsAt, puts, Built, sound};
 ghost use Rattle.records.specs.CookieValue.{cookieValueCodec};
 ghost use Rattle.inspection.specs.Inspected.{presentFlag, partFields, partCodec};
@@ -42,7 +46,14 @@ fn present(
 ) -> PartAnswer
     ensures { λ r. ⌜ Built (partCodec 1) (zeros ∷ control ∷ cookie ∷ token ∷ deadline ∷ epoch ∷ []) (r .number) (r .value) ⌝ }
 {
-    let read = records::cookie_value::from_fields(zeros, control, cookie, token, deadline, epoch);
+    let read = FenceCookieValue::from_fields(
+        zeros,
+        control,
+        SocketCookie(cookie),
+        DurableFenceToken(token),
+        BootNs(deadline),
+        ControlEpoch(epoch),
+    );
     if read.number != 0 {
         return absent(2);
     }

@@ -7,6 +7,8 @@ use records::current::CurrentAnswer;
 use records::current::CurrentFenceToken;
 use records::mutation::FenceMutationAuthority;
 use records::mutation::MutationAnswer;
+use units::DurableFenceToken;
+use units::SocketCookie;
 ghost use Rattle.records.specs.Words.{_≡_, [], _∷_, _++_, octetsAt, le, be, allZero, fieldsAt, puts, Built, Decoded, Encoded, sound};
 ghost use Rattle.records.specs.Current.{currentCodec};
 ghost use Rattle.records.specs.Mutation.{mutationCodec};
@@ -72,7 +74,12 @@ fn current_part(s: &[u8]) -> CurrentAnswer
     let control = octets::get_u32_le(s, 12);
     let token = octets::get_u64_le(s, 16);
     let cookie = octets::get_u64_le(s, 24);
-    records::current::from_fields(zeros, control, token, cookie)
+    CurrentFenceToken::from_fields(
+        zeros,
+        control,
+        DurableFenceToken(token),
+        SocketCookie(cookie),
+    )
 }
 
 fn mutation_part(s: &[u8]) -> MutationAnswer

@@ -11,10 +11,9 @@ use Rattle.records.proofs.entry.FenceEntryState as state
 use Rattle.records.proofs.entry.FenceEntry as entry
 use Rattle.records.proofs.cookie_value.FenceCookieValue as value
 use Rattle.records.proofs.config.FenceConfig as config
-use Rattle.records.proofs.current.from_fields as current-fields
-use Rattle.records.proofs.cookie_value.from_fields as value-fields
 
-pub current-determined : Determined current.initial.Kinds.ps current.initial.Kinds.r current.initial.Reads.Learnt
+pub current-determined : Determined current.from_fields.Kinds.ps current.from_fields.Kinds.r current.from_fields.Reads.Learnt
+    × Determined current.initial.Kinds.ps current.initial.Kinds.r current.initial.Reads.Learnt
     × Determined current.lifecycle_open.Kinds.ps current.lifecycle_open.Kinds.r current.lifecycle_open.Reads.Learnt
     × Determined current.retirement_closed.Kinds.ps current.retirement_closed.Kinds.r current.retirement_closed.Reads.Learnt
     × Determined current.registered.Kinds.ps current.registered.Kinds.r current.registered.Reads.Learnt
@@ -27,6 +26,7 @@ pub current-determined : Determined current.initial.Kinds.ps current.initial.Kin
     × Determined current.decode.Kinds.ps current.decode.Kinds.r current.decode.Reads.Learnt
     × Determined current.encode.Kinds.ps current.encode.Kinds.r current.encode.Reads.Learnt
 current-determined = (
+  λ κs a x y u v p q. (λ i. record { number = (p .number ∙ sym (q .number)) i; value = (p .value ∙ sym (q .value)) i }, refl),
   λ κs a x y u v p q. (λ i. record { number = (p .number ∙ sym (q .number)) i; value = (p .value ∙ sym (q .value)) i }, refl),
   λ κs a x y u v p q. (λ i. record { number = (p .number ∙ sym (q .number)) i; value = (p .value ∙ sym (q .value)) i }, refl),
   λ κs a x y u v p q. (λ i. record { number = (p .number ∙ sym (q .number)) i; value = (p .value ∙ sym (q .value)) i }, refl),
@@ -107,13 +107,15 @@ entry-determined = (
   λ κs a x y u v p q. (p .number ∙ sym (q .number), λ i. (u .0, ((p .output ∙ sym (q .output)) i, u .1 .1))),
 )
 
-pub value-determined : Determined value.new.Kinds.ps value.new.Kinds.r value.new.Reads.Learnt
+pub value-determined : Determined value.from_fields.Kinds.ps value.from_fields.Kinds.r value.from_fields.Reads.Learnt
+    × Determined value.new.Kinds.ps value.new.Kinds.r value.new.Reads.Learnt
     × Determined value.key.Kinds.ps value.key.Kinds.r value.key.Reads.Learnt
     × Determined value.entry.Kinds.ps value.entry.Kinds.r value.entry.Reads.Learnt
     × Determined value.is_sound.Kinds.ps value.is_sound.Kinds.r value.is_sound.Reads.Learnt
     × Determined value.decode.Kinds.ps value.decode.Kinds.r value.decode.Reads.Learnt
     × Determined value.encode.Kinds.ps value.encode.Kinds.r value.encode.Reads.Learnt
 value-determined = (
+  λ κs a x y u v p q. (λ i. record { number = (p .number ∙ sym (q .number)) i; value = (p .value ∙ sym (q .value)) i }, refl),
   λ κs a x y u v p q. (λ i. record { number = (p .number ∙ sym (q .number)) i; value = (p .value ∙ sym (q .value)) i }, refl),
   λ κs a x y u v p q. (p ∙ sym q, refl),
   λ κs a x y u v p q. (p ∙ sym q, refl),
@@ -138,10 +140,3 @@ config-determined = (
   λ κs a x y u v p q. (λ i. record { number = (p .number ∙ sym (q .number)) i; value = (p .value ∙ sym (q .value)) i }, refl),
   λ κs a x y u v p q. (p .number ∙ sym (q .number), λ i. (u .0, ((p .output ∙ sym (q .output)) i, u .1 .1))),
 )
-
--- the records that the numbers of a layout give, for a record that holds one of them
-pub current-fields-determined : Determined current-fields.Kinds.ps current-fields.Kinds.r current-fields.Reads.Learnt
-current-fields-determined κs a x y u v p q = (λ i. record { number = (p .number ∙ sym (q .number)) i; value = (p .value ∙ sym (q .value)) i }, refl)
-
-pub value-fields-determined : Determined value-fields.Kinds.ps value-fields.Kinds.r value-fields.Reads.Learnt
-value-fields-determined κs a x y u v p q = (λ i. record { number = (p .number ∙ sym (q .number)) i; value = (p .value ∙ sym (q .value)) i }, refl)

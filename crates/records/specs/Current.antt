@@ -16,7 +16,7 @@ currentRule z k t c =
     (cond (eqb k 0x4f45_0202) (eqb (t % 2) 0 && (not (eqb t 0) && eqb c 0))
     false))
 
--- the control of a record: 0 only in the initial one
+-- the control of a record: of sound ones, 0 only in the initial one
 abbrev pub currentControl : CurrentFenceToken → ℕ
 currentControl v = cond (v .«retirement_closed») 0x4f45_0202 (cond (eqb (v .«durable_fence_token» .0) 0) 0 0x4f45_0201)
 

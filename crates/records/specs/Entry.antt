@@ -14,19 +14,19 @@ controlOf Reclaiming = 0x4f45_01ff
 -- the state of a control word that the rule accepts
 abbrev pub stateFrom : ℕ → FenceEntryState
 stateFrom k =
-    cond (eqb k 0x4f45_0102) Active
-    (cond (eqb k 0x4f45_0103) TerminalClosed
-    (cond (eqb k 0x4f45_01ff) Reclaiming
+    cond (eqb k (controlOf Active)) Active
+    (cond (eqb k (controlOf TerminalClosed)) TerminalClosed
+    (cond (eqb k (controlOf Reclaiming)) Reclaiming
     InitialClosed))
 
 -- of control, deadline, epoch. InitialClosed: deadline 0, epoch 1. Active: deadline not 0. TerminalClosed and Reclaiming: deadline 0.
 -- There is no other control
 abbrev pub deadlineRule : ℕ → ℕ → ℕ → Bool
 deadlineRule k d e =
-    cond (eqb k 0x4f45_0101) (eqb d 0 && eqb e 1)
-    (cond (eqb k 0x4f45_0102) (not (eqb d 0))
-    (cond (eqb k 0x4f45_0103) (eqb d 0)
-    (cond (eqb k 0x4f45_01ff) (eqb d 0)
+    cond (eqb k (controlOf InitialClosed)) (eqb d 0 && eqb e 1)
+    (cond (eqb k (controlOf Active)) (not (eqb d 0))
+    (cond (eqb k (controlOf TerminalClosed)) (eqb d 0)
+    (cond (eqb k (controlOf Reclaiming)) (eqb d 0)
     false)))
 
 -- of control, token, deadline, epoch: "Token odd, epoch not 0", and what the control asks

@@ -50,25 +50,6 @@ fn answer(
     }
 }
 
-// What the six numbers of the layout give.
-pub fn from_fields(
-    zeros: u32,
-    control: u32,
-    cookie: u64,
-    token: u64,
-    deadline: u64,
-    epoch: u64,
-) -> CookieValueAnswer
-    ensures { λ r. ⌜ Built cookieValueCodec (zeros ∷ control ∷ cookie ∷ token ∷ deadline ∷ epoch ∷ []) (r .number) (r .value) ⌝ }
-{
-    if rule(zeros, control, cookie, token, deadline, epoch) {
-        let state = FenceEntryState::from_control(control);
-        answer(0, state, cookie, token, deadline, epoch)
-    } else {
-        answer(2, FenceEntryState::InitialClosed, 0, 0, 0, 0)
-    }
-}
-
 // Whether a key and an entry are sound and of one token.
 fn agree(key: FenceCookieKey, entry: FenceEntry) -> bool
     ensures { λ r. ⌜ r ≡ agreeing key entry ⌝ }
@@ -80,6 +61,25 @@ fn agree(key: FenceCookieKey, entry: FenceEntry) -> bool
 
 impl FenceCookieValue {
     pub const LEN: usize = 40;
+
+    // What the six numbers of the layout give, for whatever reads them.
+    pub fn from_fields(
+        zeros: u32,
+        control: u32,
+        cookie: SocketCookie,
+        token: DurableFenceToken,
+        deadline: BootNs,
+        epoch: ControlEpoch,
+    ) -> CookieValueAnswer
+        ensures { λ r. ⌜ Built cookieValueCodec (zeros ∷ control ∷ cookie .0 ∷ token .0 ∷ deadline .0 ∷ epoch .0 ∷ []) (r .number) (r .value) ⌝ }
+    {
+        if rule(zeros, control, cookie.0, token.0, deadline.0, epoch.0) {
+            let state = FenceEntryState::from_control(control);
+            answer(0, state, cookie.0, token.0, deadline.0, epoch.0)
+        } else {
+            answer(2, FenceEntryState::InitialClosed, 0, 0, 0, 0)
+        }
+    }
 
     // A key and an entry of the same token.
     pub fn new(key: FenceCookieKey, entry: FenceEntry) -> CookieValueAnswer
@@ -93,7 +93,7 @@ impl FenceCookieValue {
         let token = key.durable_fence_token;
         let deadline = entry.deadline_boot_ns;
         let epoch = entry.control_epoch;
-        from_fields(0, state.control(), cookie.0, token.0, deadline.0, epoch.0)
+        FenceCookieValue::from_fields(0, state.control(), cookie, token, deadline, epoch)
     }
 
     pub fn key(self) -> FenceCookieKey
@@ -144,11 +144,11 @@ impl FenceCookieValue {
         }
         let zeros = octets::get_u32_le(s, 0);
         let control = octets::get_u32_le(s, 4);
-        let cookie = octets::get_u64_le(s, 8);
-        let token = octets::get_u64_le(s, 16);
-        let deadline = octets::get_u64_le(s, 24);
-        let epoch = octets::get_u64_le(s, 32);
-        from_fields(zeros, control, cookie, token, deadline, epoch)
+        let cookie = SocketCookie(octets::get_u64_le(s, 8));
+        let token = DurableFenceToken(octets::get_u64_le(s, 16));
+        let deadline = BootNs(octets::get_u64_le(s, 24));
+        let epoch = ControlEpoch(octets::get_u64_le(s, 32));
+        FenceCookieValue::from_fields(zeros, control, cookie, token, deadline, epoch)
     }
 
     pub fn encode(self, out: &mut [u8]) -> u32

@@ -42,18 +42,6 @@ fn answer(number: u32, token: u64, cookie: u64, retirement_closed: bool) -> Curr
     }
 }
 
-// What the four numbers of the layout give.
-pub fn from_fields(zeros: u32, control: u32, token: u64, cookie: u64) -> CurrentAnswer
-    ensures { λ r. ⌜ Built currentCodec (zeros ∷ control ∷ token ∷ cookie ∷ []) (r .number) (r .value) ⌝ }
-{
-    if rule(zeros, control, token, cookie) {
-        let closed = control == CurrentFenceToken::RETIREMENT_CLOSED_CONTROL;
-        answer(0, token, cookie, closed)
-    } else {
-        answer(2, 0, 0, false)
-    }
-}
-
 impl CurrentFenceToken {
     pub const LEN: usize = 24;
 
@@ -61,32 +49,49 @@ impl CurrentFenceToken {
 
     pub const RETIREMENT_CLOSED_CONTROL: u32 = 0x4f45_0202;
 
+    // What the four numbers of the layout give, for whatever reads them.
+    pub fn from_fields(
+        zeros: u32,
+        control: u32,
+        token: DurableFenceToken,
+        cookie: SocketCookie,
+    ) -> CurrentAnswer
+        ensures { λ r. ⌜ Built currentCodec (zeros ∷ control ∷ token .0 ∷ cookie .0 ∷ []) (r .number) (r .value) ⌝ }
+    {
+        if rule(zeros, control, token.0, cookie.0) {
+            let closed = control == CurrentFenceToken::RETIREMENT_CLOSED_CONTROL;
+            answer(0, token.0, cookie.0, closed)
+        } else {
+            answer(2, 0, 0, false)
+        }
+    }
+
     // Before the first token is published.
     pub fn initial() -> CurrentAnswer
         ensures { λ r. ⌜ Built currentCodec (0 ∷ 0 ∷ 0 ∷ 0 ∷ []) (r .number) (r .value) ⌝ }
     {
-        from_fields(0, 0, 0, 0)
+        CurrentFenceToken::from_fields(0, 0, DurableFenceToken(0), SocketCookie(0))
     }
 
     pub fn lifecycle_open(durable_fence_token: DurableFenceToken) -> CurrentAnswer
         ensures { λ r. ⌜ Built currentCodec (0 ∷ 0x4f45_0201 ∷ «durable_fence_token» .0 ∷ 0 ∷ []) (r .number) (r .value) ⌝ }
     {
-        from_fields(
+        CurrentFenceToken::from_fields(
             0,
             CurrentFenceToken::LIFECYCLE_OPEN_CONTROL,
-            durable_fence_token.0,
-            0,
+            durable_fence_token,
+            SocketCookie(0),
         )
     }
 
     pub fn retirement_closed(durable_fence_token: DurableFenceToken) -> CurrentAnswer
         ensures { λ r. ⌜ Built currentCodec (0 ∷ 0x4f45_0202 ∷ «durable_fence_token» .0 ∷ 0 ∷ []) (r .number) (r .value) ⌝ }
     {
-        from_fields(
+        CurrentFenceToken::from_fields(
             0,
             CurrentFenceToken::RETIREMENT_CLOSED_CONTROL,
-            durable_fence_token.0,
-            0,
+            durable_fence_token,
+            SocketCookie(0),
         )
     }
 
@@ -98,15 +103,14 @@ impl CurrentFenceToken {
         ensures { λ r. ⌜ Built (asking (not (eqb («registered_socket_cookie» .0) 0)) currentCodec)
             (0 ∷ 0x4f45_0201 ∷ «durable_fence_token» .0 ∷ «registered_socket_cookie» .0 ∷ []) (r .number) (r .value) ⌝ }
     {
-        let cookie = registered_socket_cookie.0;
-        if cookie == 0 {
+        if registered_socket_cookie.0 == 0 {
             return answer(2, 0, 0, false);
         }
-        from_fields(
+        CurrentFenceToken::from_fields(
             0,
             CurrentFenceToken::LIFECYCLE_OPEN_CONTROL,
-            durable_fence_token.0,
-            cookie,
+            durable_fence_token,
+            registered_socket_cookie,
         )
     }
 
@@ -169,9 +173,9 @@ impl CurrentFenceToken {
         }
         let zeros = octets::get_u32_le(s, 0);
         let control = octets::get_u32_le(s, 4);
-        let token = octets::get_u64_le(s, 8);
-        let cookie = octets::get_u64_le(s, 16);
-        from_fields(zeros, control, token, cookie)
+        let token = DurableFenceToken(octets::get_u64_le(s, 8));
+        let cookie = SocketCookie(octets::get_u64_le(s, 16));
+        CurrentFenceToken::from_fields(zeros, control, token, cookie)
     }
 
     pub fn encode(self, out: &mut [u8]) -> u32

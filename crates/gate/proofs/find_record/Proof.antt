@@ -8,10 +8,10 @@ use Rattle.gate.proofs.find_record.Statement.{statement}
 use Rattle.gate.proofs.find_record.Tie as tie
 
 abbrev Inv-loop : tie.InvT-loop
-Inv-loop table k t last at₀ at = (at ≤ length table) × (under k t (records table) ≡ under k t (records (drop at table)))
+Inv-loop table cookie token last at₀ at = (at ≤ length table) × (under (cookie .0) (token .0) (records table) ≡ under (cookie .0) (token .0) (records (drop at table)))
 
 abbrev μ-loop : tie.MeasureT-loop
-μ-loop table k t last at₀ at = length table - at
+μ-loop table cookie token last at₀ at = length table - at
 
 returns : tie.Need-returns Inv-loop μ-loop
 returns c = sym (found-none _ _ (c .before .before .before .args .table .now) 0 (search needs))

@@ -6,11 +6,11 @@ use Rattle.gate.proofs.is_under.Tie as tie
 
 returns : tie.Need-returns
 unfolding isUnder
-returns c = rw (← c .before .before .get-u64-le .ensures, ← c .get-u64-le2 .ensures, eq-eqb _ _ (c .before .if1 .taken))
+returns c = rw (← c .before .before .before .before .get-u64-le .ensures, ← c .before .get-u64-le2 .ensures, eq-eqb _ _ (c .before .before .if1 .taken))
 
 returns-2 : tie.Need-returns-2
 unfolding isUnder
-returns-2 c = rw (← c .before .get-u64-le .ensures, ne-eqb _ _ (c .if1 .left))
+returns-2 c = rw (← c .before .before .get-u64-le .ensures, ne-eqb _ _ (c .if1 .left))
 
 pub is-under-spec : {M : Type 1} → statement M
 is-under-spec = tie.close (tie.spec (λ c κs. search needs) (λ c κs. search needs) returns returns-2)
