@@ -16,8 +16,8 @@ use Rattle.bundle.specs.Frames.{frameAt, State, initial, stepOf, frameSt
 use Rattle.bundle.specs.Text.{ascii, decimalIn, decimal}
 use Rattle.bundle.specs.Listing.{nameOf, slotText, line, lastLine, linesBy, sheet, verdictLine, longest, listing, answerOf}
 use Rattle.bundle.specs.Promises.{longestListing, Bounded, RoomSuffices}
-use Rattle.bundle.specs.declared.frames.Frame.{Frame}
-use Rattle.bundle.specs.declared.frames.Frame.the-variants as frame
+use Rattle.bundle.specs.Kinds.{Frame}
+use Rattle.bundle.specs.Kinds as frame
 use Rattle.bundle.proofs.Choices.{pick}
 use Rattle.bundle.proofs.TextLaws.{one-digit}
 use Rattle.bundle.proofs.FrameLaws.{size, left-size, nothing-left}

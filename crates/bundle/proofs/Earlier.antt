@@ -13,8 +13,8 @@ use Rattle.bundle.specs.Feed.{Feed, Step, stop, skip, emit, onward, Less
 use Rattle.bundle.specs.Frames.{lengthAt, kindAt, past, frameOf, frameAt, State, Place, initial, stepOf, leftAt, feedAt, bundleOf}
 use Rattle.bundle.specs.Listing.{Line, lastLine, sheet}
 use Rattle.bundle.specs.Promises.{callLines, EarlierCallsStay, EarlierLinesStay}
-use Rattle.bundle.specs.declared.frames.Frame.{Frame}
-use Rattle.bundle.specs.declared.frames.Frame.the-variants as frame
+use Rattle.bundle.specs.Kinds.{Frame}
+use Rattle.bundle.specs.Kinds as frame
 use Rattle.bundle.proofs.FrameLaws.{size, left-size, less, feed-at}
 use Rattle.bundle.proofs.EachLine.{lines-then-last}
 

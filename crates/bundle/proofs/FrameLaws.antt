@@ -12,8 +12,8 @@ use Rattle.gate.specs.declared.Socket.{Socket}
 use Rattle.bundle.specs.Feed.{onward, Less, Falls}
 use Rattle.bundle.specs.Frames.{lengthAt, kindAt, past, exactly, frameOf, frameAt, State, Place, socketOf, callOf, stepOf, frameStep, leftAt, feedAt}
 use Rattle.bundle.specs.Steps.{held}
-use Rattle.bundle.specs.declared.frames.Frame.{Frame}
-use Rattle.bundle.specs.declared.frames.Frame.the-variants as frame
+use Rattle.bundle.specs.Kinds.{Frame}
+use Rattle.bundle.specs.Kinds as frame
 use Rattle.bundle.proofs.Choices.{pick}
 use Rattle.bundle.proofs.FeedLaws.{run-step}
 

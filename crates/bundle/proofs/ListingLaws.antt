@@ -12,11 +12,11 @@ use Rattle.gate.specs.Gate as gate
 use Rattle.gate.specs.declared.GateAnswer.{GateAnswer}
 use Rattle.bundle.specs.Feed.{Feed, ended, bad, skip, onward}
 use Rattle.bundle.specs.Frames.{bodyAt, past, callOf, initial, frameAt, stepOf, feedAt, bundleOf}
-use Rattle.bundle.specs.Steps.{Wrote}
 use Rattle.bundle.specs.Listing.{Line, line, lastLine, linesBy, sheet, verdictLine, listing, answerOf, outputOf, Lists}
-use Rattle.bundle.specs.Steps.{held, stateOf, placeOf}
-use Rattle.bundle.specs.declared.frames.Frame.{Frame}
-use Rattle.bundle.specs.declared.frames.Frame.the-variants as frame
+use Rattle.bundle.specs.Steps.{frameIs, held, stateOf, placeOf, Wrote}
+use Rattle.bundle.specs.Kinds.{Frame}
+use Rattle.bundle.specs.Kinds as frame
+use Rattle.bundle.specs.declared.frames.Frame.{Frame as Found}
 use Rattle.bundle.specs.declared.frames.Cursor.{Cursor}
 use Rattle.bundle.proofs.TextLaws.{same-length}
 use Rattle.bundle.proofs.FrameLaws.{size, inside-at, feed-at, held-in, held-out}
@@ -69,6 +69,10 @@ go-start g s t d =
       place = omega arith;
       owed = record { bytes = ap (λ f. put d 0 (linesOf g 0 f)) (sym first); past = ap (λ f. length (linesOf g 0 f)) (sym first) ∙ omega arith };
     }
+
+-- what stands at an offset is what the frame that is found there stands for, case by case
+pub found : {x y : Found} {f : Frame} → frameIs x ≡ f → x ≡ y → f ≡ frameIs y
+found e h = sym e ∙ ap frameIs h
 
 module _ {g : Line} {s t₀ t d₀ d : List ℕ} {c : Cursor} {i w : ℕ} (k : Going g s t₀ t d₀ d c i w) where
   -- the frame at the cursor lies in the bundle

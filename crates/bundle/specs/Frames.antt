@@ -4,8 +4,8 @@ use Rattle.octets.specs.Octets.{octetsAt, le}
 use Rattle.gate.specs.Gate.{Call}
 use Rattle.gate.specs.declared.Socket.{Socket}
 use Rattle.bundle.specs.Feed.{Feed, ended, bad, Step, stop, skip, emit, run}
-use Rattle.bundle.specs.declared.frames.Frame.{Frame}
-use Rattle.bundle.specs.declared.frames.Frame.the-variants as frame
+use Rattle.bundle.specs.Kinds.{Frame}
+use Rattle.bundle.specs.Kinds as frame
 
 -- "A frame is a u32 body length, a u16 kind, the body, little-endian."
 abbrev pub headLength : ℕ

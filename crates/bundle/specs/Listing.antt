@@ -67,7 +67,7 @@ answerOf text room = cond (leb (length text) room) (record { number = 0; length 
 unfoldable pub outputOf : List ℕ → List ℕ → List ℕ
 outputOf text out = cond (leb (length text) (length out)) (text ++ drop (length text) out) out
 
--- what `list` says of a call, on the bytes s, whose output held out and holds out′ then
+-- what is answered for the bytes s, with an output that held out and holds out′ then
 pub record Lists (s out : List ℕ) (r : Listed) (out′ : List ℕ) : Type 0 where
   pub answer : r ≡ answerOf (listing s) (length out)
   pub output : out′ ≡ outputOf (listing s) out

@@ -1,4 +1,4 @@
--- What is proved of listings, besides that `list` gives them. Assumes nothing.
+-- What is proved of listings. Assumes nothing.
 use Rattle.octets.specs.Words.{ℕ, suc, _+_, _-_, _*_, _^_, _<_, _≤_, _≡_, cond, List, [], _∷_, _++_, length, take, eqb}
 use Rattle.gate.specs.Gate.{Call}
 use Rattle.gate.specs.Isolation.{Alike}

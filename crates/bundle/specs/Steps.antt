@@ -1,9 +1,21 @@
--- What the inner functions of `bundle` are held to: a cursor and the state that it stands for, and text written at a place. What a
--- bundle means is in `Frames` and `Listing`, which do not rest on this. Assumes nothing.
+-- What the inner functions of `bundle` are held to: the frame that is found, a cursor and the state that it stands for, and text written
+-- at a place. What a bundle means is in `Frames` and `Listing`, which do not rest on this. Assumes nothing.
 use Rattle.octets.specs.Words.{ℕ, _+_, _≡_, cond, List, length, take, replicate, leb}
 use Rattle.octets.specs.Octets.{octetsAt, put}
 use Rattle.bundle.specs.Frames.{State, Place}
+use Rattle.bundle.specs.Kinds as frame
+use Rattle.bundle.specs.declared.frames.Frame.{Frame}
+use Rattle.bundle.specs.declared.frames.Frame.the-variants as found
 use Rattle.bundle.specs.declared.frames.Cursor.{Cursor}
+
+abbrev pub frameIs : Frame → frame.Frame
+frameIs found.Config = frame.Config
+frameIs found.Current = frame.Current
+frameIs found.CookieValue = frame.CookieValue
+frameIs found.Call = frame.Call
+frameIs (found.Packet n) = frame.Packet n
+frameIs found.End = frame.End
+frameIs found.Bad = frame.Bad
 
 -- the n bytes at a place of the input; zeros where they do not lie inside, as long as no such body has come
 unfoldable pub held : List ℕ → ℕ → ℕ → List ℕ

@@ -2,23 +2,21 @@
 use crate::text;
 use gate::GateAnswer;
 use gate::Socket;
+use records::config::FenceConfig;
+use records::cookie_value::FenceCookieValue;
+use records::current::CurrentFenceToken;
 use units::BootNs;
 use units::RootCgroupId;
 use units::SocketCookie;
 ghost use Rattle.octets.specs.Words.{_+_, _≤_, _<_, _≡_, _++_, length, take, replicate};
 ghost use Rattle.gate.specs.Gate.{gateOf, answerOf};
 ghost use Rattle.bundle.specs.Frames.{exactly, frameOf, frameAt, bodyAt, past, socketOf, callOf};
-ghost use Rattle.bundle.specs.Steps.{held, stateOf};
+ghost use Rattle.bundle.specs.Steps.{frameIs, held, stateOf};
 
 // A frame's body length and kind.
 pub(crate) const HEAD: usize = 6;
 
-const CONFIG: usize = 40;
-
-const CURRENT: usize = 24;
-
-const COOKIE_VALUE: usize = 40;
-
+// The body of a call.
 const CALL: usize = 43;
 
 // What stands at an offset.
@@ -46,18 +44,18 @@ pub(crate) struct Cursor {
 }
 
 fn of_length(n: usize, len: usize, frame: Frame) -> Frame
-    ensures { λ r. ⌜ r ≡ exactly n len frame ⌝ }
+    ensures { λ r. ⌜ frameIs r ≡ exactly n len (frameIs frame) ⌝ }
 {
     if len == n { frame } else { Frame::Bad }
 }
 
 fn frame_of(kind: u16, len: usize) -> Frame
-    ensures { λ r. ⌜ r ≡ frameOf kind len ⌝ }
+    ensures { λ r. ⌜ frameIs r ≡ frameOf kind len ⌝ }
 {
     match kind {
-        1 => of_length(CONFIG, len, Frame::Config),
-        2 => of_length(CURRENT, len, Frame::Current),
-        3 => of_length(COOKIE_VALUE, len, Frame::CookieValue),
+        1 => of_length(FenceConfig::LEN, len, Frame::Config),
+        2 => of_length(CurrentFenceToken::LEN, len, Frame::Current),
+        3 => of_length(FenceCookieValue::LEN, len, Frame::CookieValue),
         4 => of_length(CALL, len, Frame::Call),
         5 => Frame::Packet(len),
         _ => Frame::Bad,
@@ -65,7 +63,7 @@ fn frame_of(kind: u16, len: usize) -> Frame
 }
 
 pub(crate) fn frame_at(input: &[u8], at: usize) -> Frame
-    ensures { λ r. ⌜ r ≡ frameAt (now (input .entry)) at ⌝ }
+    ensures { λ r. ⌜ frameIs r ≡ frameAt (now (input .entry)) at ⌝ }
 {
     if input.len() <= at {
         return Frame::End;
@@ -100,7 +98,7 @@ impl Cursor {
         ensures { λ r. ⌜ r ≡ record { at = past (self .at) 40; gathered = self .gathered; config = self .at + 6; current = self .current; call = self .call } ⌝ }
     {
         Cursor {
-            at: self.at + (HEAD + CONFIG),
+            at: self.at + (HEAD + FenceConfig::LEN),
             gathered: self.gathered,
             config: self.at + HEAD,
             current: self.current,
@@ -113,7 +111,7 @@ impl Cursor {
         ensures { λ r. ⌜ r ≡ record { at = past (self .at) 24; gathered = self .gathered; config = self .config; current = self .at + 6; call = self .call } ⌝ }
     {
         Cursor {
-            at: self.at + (HEAD + CURRENT),
+            at: self.at + (HEAD + CurrentFenceToken::LEN),
             gathered: self.gathered,
             config: self.config,
             current: self.at + HEAD,
@@ -126,8 +124,8 @@ impl Cursor {
         ensures { λ r. ⌜ r ≡ record { at = past (self .at) 40; gathered = self .gathered + 40; config = self .config; current = self .current; call = self .call } ⌝ }
     {
         Cursor {
-            at: self.at + (HEAD + COOKIE_VALUE),
-            gathered: self.gathered + COOKIE_VALUE,
+            at: self.at + (HEAD + FenceCookieValue::LEN),
+            gathered: self.gathered + FenceCookieValue::LEN,
             config: self.config,
             current: self.current,
             call: self.call,
@@ -167,9 +165,9 @@ pub(crate) fn append_value(table: &mut [u8], input: &[u8], cursor: Cursor)
     ensures { λ r. ⌜ take (cursor .gathered + 40) (now (table .exit)) ≡ take (cursor .gathered) (now (table .entry)) ++ bodyAt (now (input .entry)) (cursor .at) 40 ⌝ }
 {
     let from = cursor.at + HEAD;
-    let end = from + COOKIE_VALUE;
+    let end = from + FenceCookieValue::LEN;
     let to = cursor.gathered;
-    let room = to + COOKIE_VALUE;
+    let room = to + FenceCookieValue::LEN;
     text::fill(&mut table[to..room], &input[from..end]);
 }
 
@@ -208,8 +206,8 @@ pub(crate) fn judge(input: &[u8], table: &[u8], cursor: Cursor, len: usize) -> G
     ensures { λ r. ⌜ answerOf r ≡ gateOf (callOf (stateOf (now (input .entry)) (now (table .entry)) cursor) (bodyAt (now (input .entry)) (cursor .at) len)) ⌝ }
 {
     let zeros = [0u8; 43];
-    let config = body(input, &zeros, cursor.config, CONFIG);
-    let current = body(input, &zeros, cursor.current, CURRENT);
+    let config = body(input, &zeros, cursor.config, FenceConfig::LEN);
+    let current = body(input, &zeros, cursor.current, CurrentFenceToken::LEN);
     let call = body(input, &zeros, cursor.call, CALL);
     let from = cursor.at + HEAD;
     let end = from + len;

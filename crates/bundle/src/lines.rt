@@ -45,12 +45,12 @@ pub(crate) fn put_line(out: &mut [u8], at: usize, ordinal: u64, answer: GateAnsw
 {
     let verdict = answer.verdict;
     let slot = verdict.counter_slot();
-    let named = text::put_decimal(out, at, ordinal);
-    let counted = put_verdict(out, named, verdict);
-    let parted = text::put_decimal(out, counted, answer.headers as u64);
-    let slotted = text::put_byte(out, parted, b' ');
-    let ended = put_slot(out, slotted, slot);
-    text::put_byte(out, ended, b'\n')
+    let name_at = text::put_decimal(out, at, ordinal);
+    let count_at = put_verdict(out, name_at, verdict);
+    let space_at = text::put_decimal(out, count_at, answer.headers as u64);
+    let slot_at = text::put_byte(out, space_at, b' ');
+    let end_at = put_slot(out, slot_at, slot);
+    text::put_byte(out, end_at, b'\n')
 }
 
 // The last line: a word and a number.
@@ -58,7 +58,7 @@ pub(crate) fn put_last(out: &mut [u8], at: usize, word: &[u8], n: u64) -> usize
     requires { ⌜ (at + 30 < 4294967296) × (length (now word) ≡ 4) ⌝ }
     ensures { λ r. ⌜ Wrote (now (out .entry)) at (now (word .entry) ++ decimal n ++ ascii "\n") (now (out .exit)) r ⌝ }
 {
-    let numbered = text::put_text(out, at, word);
-    let ended = text::put_decimal(out, numbered, n);
-    text::put_byte(out, ended, b'\n')
+    let number_at = text::put_text(out, at, word);
+    let end_at = text::put_decimal(out, number_at, n);
+    text::put_byte(out, end_at, b'\n')
 }

@@ -1,5 +1,5 @@
 -- The egress verdict: 01's slots, and the order and tests of lib.rs's `decide_egress`. Assumes nothing.
-use Rattle.octets.specs.Words.{ℕ, Bool, false, cond, not, _&&_, _||_, eqb, leb}
+use Rattle.octets.specs.Words.{ℕ, Bool, false, cond, not, _&&_, _||_, List, [], _∷_, eqb, leb}
 use Rattle.packet.specs.Answers.{dispositionNumber}
 use Rattle.records.specs.Entry.{closed}
 use Rattle.records.specs.declared.entry.FenceEntry.{FenceEntry}
@@ -22,6 +22,11 @@ slotOf DropClosed = Slot 4
 slotOf DropExpired = Slot 5
 slotOf DropMalformed = Slot 6
 slotOf DropStaleToken = Slot 7
+
+-- a slot by its number, "PassUnrelated none"
+abbrev pub slotNumbers : CounterSlot → List ℕ
+slotNumbers Uncounted = []
+slotNumbers (Slot n) = n ∷ []
 
 -- a packet leaves where it is not counted, and where it is counted as allowed
 abbrev pub dropped : CounterSlot → Bool

@@ -6,7 +6,7 @@ use units::BootNs;
 use units::DurableFenceToken;
 use units::SocketCookie;
 ghost use Rattle.octets.specs.Words.{_≡_, Bool};
-ghost use Rattle.verdict.specs.Verdict.{slotOf, dropped, staleAuthority, entryVerdict, protectedVerdict, egressVerdict};
+ghost use Rattle.verdict.specs.Verdict.{slotOf, slotNumbers, dropped, staleAuthority, entryVerdict, protectedVerdict, egressVerdict};
 
 // The slots of the counter map, which has eight; slot 1 is reserved.
 pub const COUNTER_ALLOWED: u32 = 0;
@@ -40,7 +40,7 @@ pub enum FenceVerdict {
     DropClosed,
     // The socket's deadline is reached or past.
     DropExpired,
-    // The socket's token is not the current one.
+    // The socket, or its record's token, is not the one that the current record names.
     DropStaleToken,
     // The packet, or a record that it is judged by, is malformed.
     DropMalformed,
@@ -54,7 +54,7 @@ pub enum CounterSlot {
 
 impl FenceVerdict {
     pub fn counter_slot(self) -> CounterSlot
-        ensures { λ r. ⌜ r ≡ slotOf self ⌝ }
+        ensures { λ r. ⌜ slotNumbers r ≡ slotNumbers (slotOf self) ⌝ }
     {
         match self {
             FenceVerdict::PassUnrelated => CounterSlot::Uncounted,

@@ -1,9 +1,9 @@
 -- `put_lines`: the lines of the feed at the cursor are owed, and each frame that is read leaves less of the input. Assumes nothing.
 use Rattle.octets.specs.Words.{_-_, length}
-use Rattle.octets.proofs.Tools.{refl, sym, _∙_, arith, needs, free}
+use Rattle.octets.proofs.Tools.{refl, arith, needs, free}
 use Rattle.bundle.specs.Listing.{lastLine, verdictLine}
 use Rattle.bundle.proofs.FrameLaws.{size}
-use Rattle.bundle.proofs.ListingLaws.{Going, there, go-start, go-config, go-current, go-value, go-call, go-judged, go-end, go-bad}
+use Rattle.bundle.proofs.ListingLaws.{Going, there, found, go-start, go-config, go-current, go-value, go-call, go-judged, go-end, go-bad}
 use Rattle.bundle.proofs.put_lines.Statement.{statement}
 use Rattle.bundle.proofs.put_lines.Tie as tie
 
@@ -23,13 +23,13 @@ loop-less : tie.Need-loop-less Inv-loop μ-loop
 unfolding size
 loop-less c =
     let f = c .before .before .before in
-    let e = sym (f .frame-at .ensures) ∙ c .before .enum-told .given .1 in
+    let e = found (f .frame-at .ensures) (c .before .enum-told .given .1) in
     rw (c .with-config .ensures) (omega (arith, there (f .before .loop .inv) e))
 
 loop-again : tie.Need-loop-again Inv-loop μ-loop
 loop-again c =
     let f = c .before .before .before in
-    rw (c .with-config .ensures) (go-config (f .before .loop .inv) (sym (f .frame-at .ensures) ∙ c .before .enum-told .given .1))
+    rw (c .with-config .ensures) (go-config (f .before .loop .inv) (found (f .frame-at .ensures) (c .before .enum-told .given .1)))
 
 with-current-requires : tie.Need-with-current-requires Inv-loop μ-loop
 with-current-requires c κs = let l = c .before .before .before in omega (arith, l .loop .inv .within, l .before .before .before .before .before .pre)
@@ -38,20 +38,20 @@ loop-less-2 : tie.Need-loop-less-2 Inv-loop μ-loop
 unfolding size
 loop-less-2 c =
     let f = c .before .before .before in
-    let e = sym (f .frame-at .ensures) ∙ c .before .enum-told2 .given .1 in
+    let e = found (f .frame-at .ensures) (c .before .enum-told2 .given .1) in
     rw (c .with-current .ensures) (omega (arith, there (f .before .loop .inv) e))
 
 loop-again-2 : tie.Need-loop-again-2 Inv-loop μ-loop
 loop-again-2 c =
     let f = c .before .before .before in
-    rw (c .with-current .ensures) (go-current (f .before .loop .inv) (sym (f .frame-at .ensures) ∙ c .before .enum-told2 .given .1))
+    rw (c .with-current .ensures) (go-current (f .before .loop .inv) (found (f .frame-at .ensures) (c .before .enum-told2 .given .1)))
 
 append-value-requires : tie.Need-append-value-requires Inv-loop μ-loop
 unfolding size
 append-value-requires c κs =
     let f = c .before .before .before in
     let l = f .before in
-    let e = sym (f .frame-at .ensures) ∙ c .before .enum-told3 .given .1 in
+    let e = found (f .frame-at .ensures) (c .before .enum-told3 .given .1) in
     (there (l .loop .inv) e, omega (arith, there (l .loop .inv) e, l .loop .inv .few, l .loop .inv .same-table, l .before .before .before .before .before .pre))
 
 with-value-requires : tie.Need-with-value-requires Inv-loop μ-loop
@@ -65,7 +65,7 @@ unfolding size
 loop-less-3 c =
     let told = c .before .before .before .before .before in
     let f = told .before .before in
-    let e = sym (f .frame-at .ensures) ∙ told .enum-told3 .given .1 in
+    let e = found (f .frame-at .ensures) (told .enum-told3 .given .1) in
     rw (c .with-value .ensures) (omega (arith, there (f .before .loop .inv) e))
 
 loop-again-3 : tie.Need-loop-again-3 Inv-loop μ-loop
@@ -73,7 +73,7 @@ loop-again-3 c =
     let value = c .before .before .before in
     let told = value .before .before in
     let f = told .before .before in
-    rw (c .with-value .ensures) (go-value (f .before .loop .inv) (sym (f .frame-at .ensures) ∙ told .enum-told3 .given .1) (value .append-value .kept .0) (value .append-value .ensures))
+    rw (c .with-value .ensures) (go-value (f .before .loop .inv) (found (f .frame-at .ensures) (told .enum-told3 .given .1)) (value .append-value .kept .0) (value .append-value .ensures))
 
 with-call-requires : tie.Need-with-call-requires Inv-loop μ-loop
 with-call-requires c κs = let l = c .before .before .before in omega (arith, l .loop .inv .within, l .before .before .before .before .before .pre)
@@ -82,13 +82,13 @@ loop-less-4 : tie.Need-loop-less-4 Inv-loop μ-loop
 unfolding size
 loop-less-4 c =
     let f = c .before .before .before in
-    let e = sym (f .frame-at .ensures) ∙ c .before .enum-told4 .given .1 in
+    let e = found (f .frame-at .ensures) (c .before .enum-told4 .given .1) in
     rw (c .with-call .ensures) (omega (arith, there (f .before .loop .inv) e))
 
 loop-again-4 : tie.Need-loop-again-4 Inv-loop μ-loop
 loop-again-4 c =
     let f = c .before .before .before in
-    rw (c .with-call .ensures) (go-call (f .before .loop .inv) (sym (f .frame-at .ensures) ∙ c .before .enum-told4 .given .1))
+    rw (c .with-call .ensures) (go-call (f .before .loop .inv) (found (f .frame-at .ensures) (c .before .enum-told4 .given .1)))
 
 judge-requires : tie.Need-judge-requires Inv-loop μ-loop
 unfolding size
@@ -96,7 +96,7 @@ judge-requires c κs =
     let told = c .before .before in
     let f = told .before .before in
     let l = f .before in
-    let e = sym (f .frame-at .ensures) ∙ told .len .given .1 in
+    let e = found (f .frame-at .ensures) (told .len .given .1) in
     (there (l .loop .inv) e, omega (arith, l .loop .inv .few, l .loop .inv .within, l .loop .inv .same-table, l .before .before .before .before .before .pre))
 
 put-line-requires : tie.Need-put-line-requires Inv-loop μ-loop
@@ -115,7 +115,7 @@ past-packet-requires c κs =
     let told = c .before .before .before .before .before .before .before in
     let f = told .before .before in
     let l = f .before in
-    let e = sym (f .frame-at .ensures) ∙ told .len .given .1 in
+    let e = found (f .frame-at .ensures) (told .len .given .1) in
     omega (arith, there (l .loop .inv) e, l .before .before .before .before .before .pre)
 
 loop-less-5 : tie.Need-loop-less-5 Inv-loop μ-loop
@@ -123,7 +123,7 @@ unfolding size
 loop-less-5 c =
     let told = c .before .before .before .before .before .before .before .before in
     let f = told .before .before in
-    let e = sym (f .frame-at .ensures) ∙ told .len .given .1 in
+    let e = found (f .frame-at .ensures) (told .len .given .1) in
     rw (c .past-packet .ensures) (omega (arith, there (f .before .loop .inv) e))
 
 loop-again-5 : tie.Need-loop-again-5 Inv-loop μ-loop
@@ -132,7 +132,7 @@ loop-again-5 c =
     let judged = put .before .before in
     let told = judged .before .before .before in
     let f = told .before .before in
-    rw (c .past-packet .ensures) (go-judged (f .before .loop .inv) _ (judged .judge .result) (sym (f .frame-at .ensures) ∙ told .len .given .1) (judged .judge .ensures) (put .put-line .ensures .0) (put .put-line .ensures .1))
+    rw (c .past-packet .ensures) (go-judged (f .before .loop .inv) _ (judged .judge .result) (found (f .frame-at .ensures) (told .len .given .1)) (judged .judge .ensures) (put .put-line .ensures .0) (put .put-line .ensures .1))
 
 put-last-requires : tie.Need-put-last-requires Inv-loop μ-loop
 put-last-requires c κs =
@@ -145,7 +145,7 @@ returns c =
     let put = c .before .before in
     let told = put .before .before .before in
     let f = told .before .before in
-    go-end (f .before .loop .inv) (sym (f .frame-at .ensures) ∙ told .enum-told5 .given .1) (put .put-last .ensures)
+    go-end (f .before .loop .inv) (found (f .frame-at .ensures) (told .enum-told5 .given .1)) (put .put-last .ensures)
 
 put-last-requires-2 : tie.Need-put-last-requires-2 Inv-loop μ-loop
 put-last-requires-2 c κs =
@@ -158,7 +158,7 @@ returns-2 c =
     let put = c .before .before in
     let told = put .before .before .before in
     let f = told .before .before in
-    go-bad (f .before .loop .inv) (sym (f .frame-at .ensures) ∙ told .enum-told6 .given .1) (put .put-last2 .ensures)
+    go-bad (f .before .loop .inv) (found (f .frame-at .ensures) (told .enum-told6 .given .1)) (put .put-last2 .ensures)
 
 pub put-lines-spec : {M : Type 1} → statement M
 put-lines-spec =
