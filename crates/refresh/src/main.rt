@@ -1,6 +1,7 @@
 // Says of each line `OBSERVED PRIOR REQUESTED` whether a refresh to the requested deadline is applied. Times are nanoseconds of the
-// boot clock, in decimal. At most 65,536 bytes are read; a line that is not three numbers below 2^64 gets one line on descriptor 2,
-// after the answers to the lines before it, and an end.
+// boot clock, in decimal. A line that is not three numbers below 2^64 gets one line on descriptor 2, after the answers to the lines
+// before it, and an end. An answer that cannot be written gets one line on descriptor 2 and an end; input that cannot be read, or is
+// longer than 65,536 bytes, gets one line there and no answer.
 use deadline::RefreshDeadlineDecision;
 use libc::STDERR_FILENO;
 use libc::STDIN_FILENO;
@@ -18,30 +19,78 @@ struct Number {
     next: usize,
 }
 
-fn main() {
-    let mut space = [0u8; 65537];
-    let input: &mut [u8] = &mut space;
-    let n = io::read_full(STDIN_FILENO, input);
-    if LONGEST < n {
-        io::write_all(
-            STDERR_FILENO,
-            b"refresh: the input is longer than 65536 bytes\n",
-        );
-        return;
-    }
-    answer_lines(input, n);
+// After a line: the place of the next one, which is no further on where the line is malformed; and whether the answer was written.
+struct Step {
+    next: usize,
+    written: bool,
 }
 
-// Answers the lines in the first `n` bytes of the input.
-fn answer_lines(space: &[u8], n: usize) {
-    if space.len() < n {
+const MALFORMED: Step = Step {
+    next: 0,
+    written: true,
+};
+
+// What reading gave: how many bytes stand at the start of the space, and whether a read failed.
+struct Input {
+    length: usize,
+    failed: bool,
+}
+
+// Reads standard input to the start of `space`, until the space is full, the input ends or a read fails.
+fn read_input(space: &mut [u8]) -> Input
+    ensures { λ r. ⌜ r .length ≤ length (now (space .exit)) ⌝ }
+{
+    let mut at = 0;
+    while at < space.len() {
+        let got = libc::read(STDIN_FILENO, &mut space[at..]);
+        if got < 0 {
+            return Input {
+                length: at,
+                failed: true,
+            };
+        }
+        let more = io::count(got, &space[at..]);
+        if more == 0 {
+            break;
+        }
+        at += more;
+    }
+    Input {
+        length: at,
+        failed: false,
+    }
+}
+
+fn complain(line: &[u8]) {
+    io::write_all(STDERR_FILENO, line);
+}
+
+fn main() {
+    let mut space = [0u8; 65537];
+    let input = read_input(&mut space);
+    if input.failed {
+        complain(b"refresh: the input could not be read\n");
         return;
     }
-    let input = &space[0..n];
+    let n = input.length;
+    if LONGEST < n {
+        complain(b"refresh: the input is longer than 65536 bytes\n");
+        return;
+    }
+    answer_lines(&space[0..n]);
+}
+
+// Answers the lines of the input.
+fn answer_lines(input: &[u8]) {
     let mut line: u64 = 1;
     let mut at = 0;
     while at < input.len() {
-        let next = answer_line(input, at);
+        let step = answer_line(input, at);
+        if !step.written {
+            complain(b"refresh: the answer could not be written\n");
+            return;
+        }
+        let next = step.next;
         if next <= at {
             refuse_line(line);
             return;
@@ -60,30 +109,33 @@ fn refuse_line(line: u64) {
     );
 }
 
-// Answers the line that begins at `at`. The place of the next line, or 0 where the line is malformed.
-fn answer_line(s: &[u8], at: usize) -> usize {
+// Answers the line that begins at `at`.
+fn answer_line(s: &[u8], at: usize) -> Step {
     let observed = number_at(s, at);
     if !followed_by(s, observed, b' ') {
-        return 0;
+        return MALFORMED;
     }
     let prior = number_at(s, after(observed));
     if !followed_by(s, prior, b' ') {
-        return 0;
+        return MALFORMED;
     }
     let requested = number_at(s, after(prior));
     if !followed_by(s, requested, b'\n') {
-        return 0;
+        return MALFORMED;
     }
     let decision = deadline::evaluate_refresh_deadlines(
         BootNs(observed.value),
         BootNs(prior.value),
         BootNs(requested.value),
     );
-    print_decision(decision);
-    after(requested)
+    Step {
+        next: after(requested),
+        written: print_decision(decision),
+    }
 }
 
-fn print_decision(decision: RefreshDeadlineDecision) {
+// False where the answer could not be written.
+fn print_decision(decision: RefreshDeadlineDecision) -> bool {
     match decision {
         RefreshDeadlineDecision::PriorExpired => io::write_all(STDOUT_FILENO, b"PriorExpired\n"),
         RefreshDeadlineDecision::RequestedDeadlineInvalid => {
@@ -94,7 +146,6 @@ fn print_decision(decision: RefreshDeadlineDecision) {
         }
         RefreshDeadlineDecision::Apply => io::write_all(STDOUT_FILENO, b"Apply\n"),
     }
-    ;
 }
 
 // The place after the byte that follows a number.

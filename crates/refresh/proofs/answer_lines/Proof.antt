@@ -6,10 +6,10 @@ use Rattle.refresh.proofs.answer_lines.Statement.{statement}
 use Rattle.refresh.proofs.answer_lines.Tie as tie
 
 abbrev Inv-loop : tie.InvT-loop
-Inv-loop space n input line₀ at₀ line at = line ≤ at + 1
+Inv-loop input line₀ at₀ text line at = line ≤ at + 1
 
 abbrev μ-loop : tie.MeasureT-loop
-μ-loop space n input line₀ at₀ line at = length input - at
+μ-loop input line₀ at₀ text line at = length input - at
 
 pub answer-lines-spec : {M : Type 1} → statement M
 answer-lines-spec =
@@ -18,11 +18,10 @@ answer-lines-spec =
     Inv-loop
     μ-loop
     (λ c. search needs)
-    (λ c. search needs)
-    (λ c. search needs)
-    (λ c. search needs)
+    (λ c κs. search needs)
     (λ c. search needs)
     (λ c κs. search needs)
+    (λ c. search needs)
     (λ c κs. search needs)
     (λ c. search needs)
     (λ c. search needs)
