@@ -1,6 +1,7 @@
 -- A record for programs in other languages: its own numbers side by side, each of eight octets with the least significant first, which is
 -- how a C struct of `uint64_t` holds them on x86-64. What decoding into such an image gives and what encoding from one, for any codec; the
--- numbers given back are those of document 01, 'Numbers given back'. Assumes nothing.
+-- numbers given back are those of document 01, 'Numbers given back', with 1 also for an image of another length and 4 also for an image
+-- without room. Assumes nothing.
 use Rattle.octets.specs.Words.{ℕ, _^_, _≡_, Bool, true, cond, _&&_, List, [], _∷_, _++_, length, drop, replicate, eqb, ltb, leb}
 use Rattle.octets.specs.Layout.{Field, little, width, size, fieldsAt, laid}
 use Rattle.octets.specs.Codec.{Codec, decodeNumber, decodeValue, encodeAnswer}

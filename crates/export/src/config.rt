@@ -8,7 +8,7 @@ ghost use Rattle.export.specs.Steps.{shown, written, begun};
 // The length of the fields.
 const FIELDS: usize = 48;
 
-// The fields of bytes,
+// The fields of bytes.
 fn show(bytes: &[u8], fields: &mut [u8])
     ensures { λ r. ⌜ now (fields .exit) ≡ shown configView (now (bytes .entry)) (now (fields .entry)) ⌝ }
 {
@@ -28,7 +28,7 @@ fn write_head(fields: &[u8], out: &mut [u8])
     octets::put_u8(out, 7, 0);
 }
 
-// and the bytes of fields.
+// The bytes of fields.
 fn write(fields: &[u8], out: &mut [u8])
     ensures { λ r. ⌜ now (out .exit) ≡ written configView (now (fields .entry)) (now (out .entry)) ⌝ }
 {

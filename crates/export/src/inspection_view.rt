@@ -11,7 +11,7 @@ ghost use Rattle.export.specs.Steps.{shown, written, begun};
 // The length of the fields.
 const FIELDS: usize = 88;
 
-// The fields of bytes,
+// The fields of bytes.
 fn show(bytes: &[u8], fields: &mut [u8])
     ensures { λ r. ⌜ now (fields .exit) ≡ shown inspectionView (now (bytes .entry)) (now (fields .entry)) ⌝ }
 {
@@ -43,7 +43,7 @@ fn write_tail(out: &mut [u8])
     octets::put_u64_le(out, 120, 0);
 }
 
-// and the bytes of fields.
+// The bytes of fields.
 fn write(fields: &[u8], out: &mut [u8])
     ensures { λ r. ⌜ now (out .exit) ≡ written inspectionView (now (fields .entry)) (now (out .entry)) ⌝ }
 {

@@ -28,4 +28,6 @@
 //   numbers read back (`decimals-read-back`), earlier lines stay (`earlier-calls-stay`, `earlier-lines-stay` in `Earlier.antt`),
 //   isolation (`isolated-line`, `isolated-sheet`, `isolated-listing` in `IsolationLaw.antt`), no listing is longer than the judge's
 //   output (`no-longer` in `Bound.antt`), 01's case and the edges of frames (`case-listed`, `edges-listed` in `Case.antt`).
+// - Images for C. `fields-back` and `bytes-back` in `export/proofs/RoundTrips.antt`: what decoding gives, encoding takes back, and the other
+//   way round, for every record.
 // - Examples. `examples-hold` in `laws/proofs/Examples.antt`: the list that document 01 asks to be proved.

@@ -10,7 +10,7 @@ pub struct SocketCookie(pub u64);
 // The durable fence token: odd while a socket's lifecycle is open, even once it is retired.
 pub struct DurableFenceToken(pub u64);
 
-// How often an entry's control state was written.
+// The epoch of a socket's entry, which grows as its state is written; 1 at registration.
 pub struct ControlEpoch(pub u64);
 
 // The inode number of the root cgroup that the hook is attached to.
