@@ -3,7 +3,7 @@
 //
 // A stream is blocks: a u32 length of at most 65,536, then that many bytes of whole queries. A query is a kind (u8), a body length
 // (u16) and the body; numbers are little-endian. The answers follow each other with nothing in between. A stream that is malformed
-// gets one line on descriptor 2, after the answers to the queries before the fault, and an end.
+// gets one line on descriptor 2, after the answers to the queries before the fault, and an end; so do answers that cannot be written.
 mod codecs;
 mod constructors;
 mod fields;
@@ -39,7 +39,7 @@ fn main() {
     }
 }
 
-// Says what is wrong with the stream, and that it is at an end.
+// Says what is wrong, and that nothing more is to be done.
 fn complain(line: &[u8]) -> bool {
     io::write_all(STDERR_FILENO, line);
     false
@@ -98,7 +98,10 @@ fn flush(out: &[u8], used: usize) -> bool {
     if out.len() < used {
         return false;
     }
-    io::write_all(STDOUT_FILENO, &out[0..used])
+    if io::write_all(STDOUT_FILENO, &out[0..used]) {
+        return true;
+    }
+    complain(b"beside: the answers could not be written\n")
 }
 
 // Answers the query that begins at `at`, after `used` bytes of gathered answers.

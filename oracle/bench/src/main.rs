@@ -63,7 +63,8 @@ fn main() -> ExitCode {
         ["bundle", number] => {
             let bundles = bundles::bundles();
             if let Some(bundle) = number.parse::<usize>().ok().and_then(|number| bundles.get(number)) {
-                return match std::io::stdout().write_all(&bundle.bytes) {
+                let mut out = std::io::stdout();
+                return match out.write_all(&bundle.bytes).and_then(|()| out.flush()) {
                     Ok(()) => ExitCode::SUCCESS,
                     Err(_) => ExitCode::FAILURE,
                 };

@@ -38,7 +38,7 @@ const OUTCOMES: &[&str] = &[
     "bad: cut in a frame's body",
     "bad: unknown kind",
     "bad: wrong length",
-    "bad: length near 2^32",
+    "bad: a length past 2^16",
     "long",
 ];
 
@@ -127,11 +127,12 @@ fn with_ending(mut bytes: Vec<u8>, rng: &mut Rng) -> (Vec<u8>, &'static str) {
             (bytes, "bad: wrong length")
         }
         4 => {
-            let length: u32 = u32::MAX - rng.below(64) as u32;
+            let near: u32 = u32::MAX - rng.below(64) as u32;
+            let length = rng.pick(&[near, near, (1 << 16) + 40, (1 << 24) + 40]);
             bytes.extend(length.to_le_bytes());
             bytes.extend(rng.pick(&[1u16, 3, 5, 9]).to_le_bytes());
             bytes.extend(vec![0; rng.below(80)]);
-            (bytes, "bad: length near 2^32")
+            (bytes, "bad: a length past 2^16")
         }
         _ => (bytes, "end"),
     }
@@ -160,7 +161,32 @@ fn at_the_limit() -> Vec<Bundle> {
         whole(vec![0; LONGEST_BUNDLE + 1], "long", LONGEST_BUNDLE),
         whole(vec![5; 200_000], "long", 65_536),
         whole(one_packet, "end", 1000),
+        whole(many_records(), "end", 65_536),
     ]
+}
+
+/// A bundle whose socket's own record stands behind 1,400 others.
+fn many_records() -> Vec<u8> {
+    let it = allowed(&packet::IPV4);
+    let mut bytes = Vec::new();
+    put_frame(&mut bytes, 1, &it.config);
+    put_frame(&mut bytes, 2, &it.current);
+    put_frame(&mut bytes, 4, &call_body(&it));
+    for _ in 0..1400 {
+        put_frame(&mut bytes, 3, &[0; 40]);
+    }
+    put_frame(&mut bytes, 3, &it.table());
+    put_frame(&mut bytes, 5, &it.packet);
+    bytes
+}
+
+/// The first line in which two listings differ, of each.
+fn first_difference(expected: &[u8], got: &[u8]) -> (String, String) {
+    let lines = |text: &[u8]| -> Vec<String> { String::from_utf8_lossy(text).lines().map(str::to_string).collect() };
+    let (expected, got) = (lines(expected), lines(got));
+    let at = expected.iter().zip(&got).take_while(|(one, other)| one == other).count();
+    let line = |text: &[String]| text.get(at).cloned().unwrap_or("nothing more".into());
+    (line(&expected), line(&got))
 }
 
 /// What the program writes, and whether it ended well.
@@ -228,9 +254,11 @@ pub fn compare(amount: Amount, command: &[&str]) -> Result<(), String> {
             differences += 1;
         }
         if got != expected && differences <= SHOWN {
-            println!("  a bundle of {} bytes", bundle.bytes.len());
-            println!("    plain {}", String::from_utf8_lossy(&expected).replace('\n', " / "));
-            println!("    judge {}", String::from_utf8_lossy(&got).replace('\n', " / "));
+            let (plain, judge) = first_difference(&expected, &got);
+            println!(
+                "  a bundle of {} bytes\n    plain {plain}\n    judge {judge}",
+                bundle.bytes.len()
+            );
         }
     }
     println!(

@@ -169,9 +169,14 @@ pub fn compare(suite: &'static Suite, amount: Amount, command: &[&str]) -> Resul
     }
     let rest = from.rest();
     let tally = feeder.join().map_err(|_| "the maker of queries failed")?;
-    child.wait().map_err(|error| error.to_string())?;
+    let status = child.wait().map_err(|error| error.to_string())?;
     report(suite, &tally, differences, began);
-    judge(suite, &tally, differences, cut, rest)
+    judge(suite, &tally, differences, cut, rest)?;
+    if status.success() {
+        Ok(())
+    } else {
+        Err(format!("beside ended with {status}"))
+    }
 }
 
 /// Counts the queries of a block that were answered in another way, and shows the first few.
@@ -230,24 +235,31 @@ fn hex(bytes: &[u8]) -> String {
     bytes.iter().map(|byte| format!("{byte:02x}")).collect::<Vec<_>>().join(" ")
 }
 
-/// Keeps the first queries of each outcome, spread over a suite's sample.
+/// What was seen and kept of an outcome: how many queries, and the number of the one kept last.
+#[derive(Default)]
+struct Kept {
+    seen: usize,
+    last: usize,
+    chosen: usize,
+}
+
+/// Keeps some queries of each outcome: the first few, and then each that comes a fifth later than the one kept last, so that all parts of
+/// a suite's sample are drawn from.
 #[derive(Default)]
 struct Chooser {
     kept: Vec<Block>,
-    seen: BTreeMap<&'static str, usize>,
-    chosen: BTreeMap<&'static str, usize>,
+    of: BTreeMap<&'static str, Kept>,
 }
 
 impl Sink for Chooser {
     fn push(&mut self, kind: u8, body: &[u8], answer: &[u8], outcome: &'static str) {
-        let seen = self.seen.entry(outcome).or_default();
-        *seen += 1;
-        let chosen = self.chosen.entry(outcome).or_default();
-        // every query at first, then ever fewer, so that later parts of a suite are drawn from as well
-        if *chosen >= KEPT || *seen < *chosen * *chosen / 8 {
+        let so_far = self.of.entry(outcome).or_default();
+        so_far.seen += 1;
+        if so_far.chosen >= KEPT || so_far.seen <= so_far.last + so_far.last / 5 {
             return;
         }
-        *chosen += 1;
+        so_far.chosen += 1;
+        so_far.last = so_far.seen;
         if self.kept.last().is_none_or(|block| !block.has_room_for(body)) {
             self.kept.push(Block::default());
         }

@@ -68,18 +68,20 @@ fn current(words: &[&str]) -> Result<[u8; 24], String> {
 fn value(words: &[&str]) -> Result<[u8; 40], String> {
     let (state, named) = words.split_first().ok_or("a cookie value needs a state")?;
     let [cookie, token, deadline, epoch] = numbers(named, ["cookie", "token", "deadline", "epoch"])?;
+    if !["initial-closed", "active", "terminal-closed", "reclaiming"].contains(state) {
+        return Err(format!("'{state}' is no state of a cookie value"));
+    }
     if deadline != 0 && *state != "active" {
         return Err(format!("a value that is {state} has no deadline"));
     }
-    if *state == "initial-closed" && epoch > 1 {
+    if *state == "initial-closed" && named.contains(&"epoch") && epoch != 1 {
         return Err("a value that is initial-closed has epoch 1".into());
     }
     let entry = match *state {
         "initial-closed" => FenceEntry::initial_closed(token),
         "active" => FenceEntry::active(token, deadline, epoch),
         "terminal-closed" => FenceEntry::terminal_closed(token, epoch),
-        "reclaiming" => FenceEntry::reclaiming(token, epoch),
-        _ => return Err(format!("'{state}' is no state of a cookie value")),
+        _ => FenceEntry::reclaiming(token, epoch),
     };
     let key = FenceCookieKey::new(cookie, token);
     let value = key.zip(entry).and_then(|(key, entry)| FenceCookieValue::new(key, entry));
@@ -140,11 +142,12 @@ fn numbers<const N: usize>(words: &[&str], names: [&str; N]) -> Result<[u64; N],
 }
 
 fn number(word: &str) -> Result<u64, String> {
-    let parsed = match word.strip_prefix("0x") {
-        Some(digits) => u64::from_str_radix(digits, 16),
-        None => word.parse(),
-    };
-    parsed.map_err(|_| format!("'{word}' is no number of 64 bits"))
+    let (digits, radix) = word.strip_prefix("0x").map_or((word, 10), |digits| (digits, 16));
+    let parsed = u64::from_str_radix(digits, radix).ok();
+    // a sign is none of the digits
+    parsed
+        .filter(|_| !digits.starts_with('+'))
+        .ok_or(format!("'{word}' is no number of 64 bits"))
 }
 
 /// A number of 16 bits.

@@ -51,7 +51,8 @@ fn run() -> Result<(), String> {
         .read_to_string(&mut text)
         .map_err(|error| format!("the description cannot be read: {error}"))?;
     let bundle = describe::bundle(&text)?;
-    std::io::stdout()
-        .write_all(&bundle)
+    let mut out = std::io::stdout();
+    out.write_all(&bundle)
+        .and_then(|()| out.flush())
         .map_err(|error| format!("the bundle cannot be written: {error}"))
 }

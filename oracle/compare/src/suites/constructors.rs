@@ -237,7 +237,9 @@ fn run(sink: &mut dyn Sink, amount: Amount) {
             }
         }
     }
+    value_edges(sink);
     config_edges(sink);
+    inspection_edges(sink);
     let mut rng = Rng::new(32);
     for _ in 0..amount.random(200_000) {
         random(sink, &mut rng);
@@ -252,6 +254,72 @@ fn config_edges(sink: &mut dyn Sink) {
                     for capacity in [0, 1, 4095, 4096, 4097, u32::MAX] {
                         ask_config(sink, Endpoint { family, address, port }, root, capacity);
                     }
+                }
+            }
+        }
+    }
+}
+
+/// Keys and entries, sound and not, of one token and of two.
+fn value_edges(sink: &mut dyn Sink) {
+    const TOKENS: [u64; 5] = [0, 1, 2, 3, u64::MAX];
+    for cookie in [0, 9, u64::MAX] {
+        for own in TOKENS {
+            let key = [cookie.to_le_bytes(), own.to_le_bytes()].concat();
+            for token in TOKENS {
+                for entry in entries(token) {
+                    ask_value(sink, key.as_slice().try_into().expect("a key has 16 bytes"), entry);
+                }
+            }
+        }
+    }
+}
+
+/// Entries of a token under every control word and one that is on no list, with deadlines and epochs at their edges.
+fn entries(token: u64) -> Vec<[u8; 32]> {
+    let mut all = Vec::new();
+    for control in [0x4f45_0101_u32, 0x4f45_0102, 0x4f45_0103, 0x4f45_01ff, 0x4f45_0104] {
+        for deadline in [0, 1, u64::MAX] {
+            for epoch in [0, 1, 2] {
+                let mut entry = [0; 32];
+                entry[4..8].copy_from_slice(&control.to_le_bytes());
+                for (place, number) in [(8, token), (16, deadline), (24, epoch)] {
+                    entry[place..place + 8].copy_from_slice(&number.to_le_bytes());
+                }
+                all.push(entry);
+            }
+        }
+    }
+    all
+}
+
+/// Every state of the current record and the mutation authority with an entry of each kind and without one.
+fn inspection_edges(sink: &mut dyn Sink) {
+    let currents = [
+        Some(CurrentFenceToken::initial()),
+        CurrentFenceToken::lifecycle_open(1),
+        CurrentFenceToken::retirement_closed(2),
+        CurrentFenceToken::registered(u64::MAX, 9),
+    ];
+    let mutations = [(0, 0), (0, 1), (u64::MAX - 1, u64::MAX), (u64::MAX, 0)];
+    let key = FenceCookieKey::new(9, 3);
+    let values = [
+        FenceEntry::initial_closed(3),
+        FenceEntry::active(3, u64::MAX, 1),
+        FenceEntry::terminal_closed(3, 2),
+        FenceEntry::reclaiming(3, u64::MAX),
+    ]
+    .map(|entry| {
+        FenceCookieValue::new(key.expect("a key"), entry.expect("an entry"))
+            .expect("a value")
+            .encode()
+    });
+    for current in currents {
+        for (generation, claim) in mutations {
+            let mutation = FenceMutationAuthority::new(generation, claim).expect("a mutation record");
+            for value in values.iter().chain([&[0; 40]]) {
+                for present in [false, true] {
+                    ask_inspection(sink, current.expect("a record").encode(), mutation.encode(), present, *value);
                 }
             }
         }

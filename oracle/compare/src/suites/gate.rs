@@ -245,6 +245,19 @@ fn each_rule(sink: &mut dyn Sink, base: &Asked) {
             ..base.clone()
         },
     );
+    // token 0 is not sought, though a record holds it; an even token is sought, and its record does not decode
+    for (current, token) in [(vec![0; 24], 0), (retired.to_vec(), 4)] {
+        let mut own = base.own.clone();
+        own[16] = token;
+        ask(
+            sink,
+            &Asked {
+                current,
+                own,
+                ..base.clone()
+            },
+        );
+    }
     let open = CurrentFenceToken::lifecycle_open(3).expect("the token is odd").encode();
     ask(
         sink,
@@ -321,6 +334,11 @@ fn tables(sink: &mut dyn Sink, base: &Asked, amount: Amount) {
                 ..base.clone()
             },
         );
+    }
+    // a key that stands across two records is no record's
+    for shift in 1..40 {
+        let own = [vec![0; shift], base.own.clone(), vec![0; 40 - shift]].concat();
+        ask(sink, &Asked { own, ..base.clone() });
     }
     for (first, second) in [(999, 1000), (1000, 999)] {
         let own = [value(9, 3, first), value(9, 3, second)].concat();

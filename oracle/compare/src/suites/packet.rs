@@ -251,11 +251,13 @@ fn every_next_header(sink: &mut dyn Sink) {
                 rest.resize(room, 17);
                 ask(sink, &chained(&deep[..depth], value, &rest), &IPV6);
             }
-            let mut packet = chained(&[(43, value), (51, value)], 17, &udp(4500));
-            ask(sink, &packet, &IPV6);
-            packet.pop();
-            ask(sink, &packet, &IPV6);
         }
+    }
+    for value in 0..=255u8 {
+        let mut packet = chained(&[(43, value), (51, value)], 17, &udp(4500));
+        ask(sink, &packet, &IPV6);
+        packet.pop();
+        ask(sink, &packet, &IPV6);
     }
 }
 
@@ -278,7 +280,10 @@ fn random(sink: &mut dyn Sink, rng: &mut Rng, good: &[(Vec<u8>, Endpoint)]) {
     match rng.below(8) {
         0 => packet.truncate(rng.below(packet.len() + 1)),
         1 => packet.extend(vec![0x11; rng.below(24)]),
-        2 if packet.len() >= 6 => packet[5] = packet[5].wrapping_add(rng.pick(&[1, 8, 255, 248])),
+        2 if packet.len() >= 6 => {
+            let stated = if packet[0] >> 4 == 4 { 3 } else { 5 };
+            packet[stated] = packet[stated].wrapping_add(rng.pick(&[1, 8, 255, 248]));
+        }
         _ => {}
     }
     ask(sink, &packet, &endpoint);
