@@ -31,7 +31,7 @@ extern "C" {
 
 enum {
     THREADWICKET_DONE = 0,
-    THREADWICKET_LENGTH = 1,  /* decode: the bytes, encode: the fields, are not of the record's length */
+    THREADWICKET_LENGTH = 1,  /* decode: the bytes are not of the record's length; encode: the fields are not of the struct's size */
     THREADWICKET_REFUSED = 2, /* decode: the bytes are no record */
     THREADWICKET_UNSOUND = 3, /* encode: the fields are no record, or one is too wide for its place */
     THREADWICKET_ROOM = 4     /* there is less room than the answer needs */
@@ -41,9 +41,9 @@ enum {
 
 /* Whether a packet's UDP source is the endpoint. The bits from 8 on count the IPv6 extension headers passed, 0 to 4. */
 enum {
-    THREADWICKET_PROTECTED = 0,
-    THREADWICKET_UNRELATED = 1,
-    THREADWICKET_INDETERMINATE = 2
+    THREADWICKET_PROTECTED = 0,    /* from the endpoint's address and port */
+    THREADWICKET_UNRELATED = 1,    /* certainly not from it */
+    THREADWICKET_INDETERMINATE = 2 /* cut, malformed, a fragment, or past what the classifier follows */
 };
 
 /* the low eight bits of an answer of threadwicket_classify or threadwicket_gate, and its count of extension headers */
@@ -57,14 +57,14 @@ uint32_t threadwicket_classify(const uint8_t *packet, size_t packet_len, uint8_t
 
 /* The verdict's counter slot. The bits from 8 on count the extension headers passed, as above; 0 where the packet was not read. */
 enum {
-    THREADWICKET_ALLOW = 0,
-    THREADWICKET_DROP_COOKIE_ZERO = 2,
-    THREADWICKET_DROP_MISSING = 3,
-    THREADWICKET_DROP_CLOSED = 4,
-    THREADWICKET_DROP_EXPIRED = 5,
-    THREADWICKET_DROP_MALFORMED = 6,
-    THREADWICKET_DROP_STALE_TOKEN = 7,
-    THREADWICKET_PASS_UNRELATED = 255 /* it has no slot */
+    THREADWICKET_ALLOW = 0,            /* the registered socket, before its deadline */
+    THREADWICKET_DROP_COOKIE_ZERO = 2, /* the socket has no cookie */
+    THREADWICKET_DROP_MISSING = 3,     /* no record stands under its cookie and the current token */
+    THREADWICKET_DROP_CLOSED = 4,      /* its record is not Active */
+    THREADWICKET_DROP_EXPIRED = 5,     /* its deadline is reached or passed */
+    THREADWICKET_DROP_MALFORMED = 6,   /* a record, the table or the packet cannot be read, or the hook is attached elsewhere */
+    THREADWICKET_DROP_STALE_TOKEN = 7, /* another socket is registered under the current token, or none */
+    THREADWICKET_PASS_UNRELATED = 255  /* not from the protected address; it has no slot */
 };
 
 /*
@@ -80,8 +80,8 @@ uint32_t threadwicket_gate(const uint8_t *config, size_t config_len, uint64_t at
 
 /* Whether a requested deadline may take the place of the prior one, on the clock observed. */
 enum {
-    THREADWICKET_PRIOR_EXPIRED = 0,              /* the prior deadline has passed */
-    THREADWICKET_REQUESTED_DEADLINE_INVALID = 1, /* the requested one has passed, or is more than 300 s ahead */
+    THREADWICKET_PRIOR_EXPIRED = 0,              /* the prior deadline is reached or passed */
+    THREADWICKET_REQUESTED_DEADLINE_INVALID = 1, /* the requested one is not after the clock, or is more than 300 s ahead */
     THREADWICKET_DEADLINE_REGRESSED = 2,         /* the requested one is earlier than the prior one */
     THREADWICKET_APPLY = 3
 };
@@ -106,8 +106,8 @@ uint32_t threadwicket_refresh(uint64_t observed_boot_ns, uint64_t prior_boot_ns,
  *     THREADWICKET_UNSOUND  the fields are no record.
  *     THREADWICKET_ROOM     bytes_len is less than THREADWICKET_NAME_LEN.
  *     THREADWICKET_DONE     the record's bytes are written, and nothing after them.
- * The first refusal that applies is answered, and nothing is written then. Fields that decode gave encode to the same bytes, and bytes that encode gave decode to the same
- * fields.
+ * The first refusal that applies is answered, and nothing is written then. Fields that decode gave encode to the same bytes, and bytes
+ * that encode gave decode to the same fields.
  */
 
 enum {
