@@ -109,7 +109,7 @@ module _ {R : Type 0} (W : View R) (Formed : R → Type 0) (L : Viewable W Forme
       let fs = W .codec .layout in
       let v = decodeValue (W .codec) s in
       let vs : List ℕ = fieldsAt fs s 0 in
-      let both = both-hold (eqb (length s) (size fs)) (W .codec .ok vs) e in
+      let both = both-hold (eqb (length s) (size fs)) (W .codec .ok vs) 1 1 (λ f z. omega arith) e in
       let back : numbers W (image W v) ≡ vs = numbers-back s h e in
       let count : length (W .codec .fields v) ≡ length (W .slots) =
       ap length (told (W .codec) Formed (L .lawful) s h e) ∙ length-fields fs s 0 ∙ sym (L .counted) in

@@ -1,20 +1,19 @@
 -- The laws of every view, proved once: the answers of the two functions that a view has, by the ways through their code. A view owes
 -- `Viewable`: its codec's laws, a slot for each field, and that its fixed fields are those of every record. Assumes nothing.
 use Rattle.octets.specs.Words.{ℕ, zero, suc, _-_, _^_, _<_, _≤_, _≡_, Bool, true, false, cond, _&&_, List, [], _∷_, _++_, length, drop, replicate, eqb, ltb, leb}
-use Rattle.octets.proofs.Tools.{refl, sym, ap, _∙_, arith, eq-eqb, ne-eqb, lt-ltb, le-ltb, le-leb, lt-leb, ltb-true, leb-true}
+use Rattle.octets.proofs.Tools.{refl, sym, ap, _∙_, arith, eq-eqb, ne-eqb, eqb-true, eqb-false, lt-ltb, le-ltb, ltb-true, leb-true}
 use lib.ListN.{length-replicate, drop-of-length-le}
 use mathlib.Core.List.{append-nil}
 use native.Mathlib.Nat.{pow-suc}
 use lib.Dec.{lit<}
 use Rattle.octets.specs.Octets.{Bytes, octetsAt, le}
 use Rattle.octets.specs.Layout.{Field, width, size, fieldsAt, laid, Fit}
-use Rattle.octets.specs.Stores.{puts}
 use Rattle.octets.specs.Codec.{Codec, decodeNumber, decodeValue, encodeAnswer}
 use Rattle.octets.proofs.OctetsLaws.{length-octets, le-below, Bytes-octets}
 use Rattle.octets.proofs.LayoutLaws.{fields-laid, length-laid, puts-laid, put-laid}
 use Rattle.octets.proofs.CodecLaws.{Lawful, and-left, and-right}
-use Rattle.export.specs.View.{Slot, own, fixed, View, pick, spread, wide, fitting, cleared, imageSize, viewDecodeNumber, viewDecodeOut, numbers, soundImage, viewEncodeNumber, viewEncodeOut, ViewDecoded, ViewEncoded}
-use Rattle.export.specs.Steps.{shown, written}
+use Rattle.export.specs.View.{Slot, own, fixed, View, pick, spread, wide, fitting, imageSize, viewDecodeNumber, viewDecodeOut, numbers, soundImage, viewEncodeNumber, viewEncodeOut, ViewDecoded, ViewEncoded}
+use Rattle.export.specs.Steps.{imageAnswer, imageCleared, shown, written}
 
 -- no field is wider than eight octets
 abbrev pub eightAtMost : List Field → Bool
@@ -74,42 +73,50 @@ beyond w {r} {v} e h = le-ltb v (256 ^ w) (omega arith)
 
 -- ---- decoding
 
+-- of two tests that answer y where the first fails, else x + 1 where the second fails: 0 says that both hold, if y is not 0 there
+pub both-hold : (a b : Bool) (x y : ℕ) → (a ≡ false → y ≡ 0 → ⊥) → _≡_ {A = ℕ} (cond a (cond b 0 (suc x)) y) 0 → (a ≡ true) × (b ≡ true)
+both-hold true true x y h z = (refl, refl)
+both-hold true false x y h z = absurd (omega arith)
+both-hold false b x y h z = absurd (h refl z)
+
+-- another answer says that one fails, and then no record is shown
+none-shown : (a b : Bool) (k : ℕ) (there out zeros : List ℕ) → (_≡_ {A = ℕ} (cond a (cond b 0 4) k) 0 → ⊥) → cond a out zeros ≡ cond a (cond b there out) zeros
+none-shown true true k there out zeros h = absurd (h refl)
+none-shown true false k there out zeros h = refl
+none-shown false b k there out zeros h = refl
+
+-- n is the decoder's number, and m what `decode_number` answers of it: a refusal, and below the record shown
 module _ {R : Type 0} (W : View R) {s out : List ℕ} where
-  pub decoded-refused : {n : ℕ} {out′ : List ℕ} → n ≡ decodeNumber (W .codec) s → (n ≡ 0 → ⊥) → out′ ≡ cleared (imageSize W) out → ViewDecoded W s out n out′
+  pub decoded-refused : {n m : ℕ} {out′ : List ℕ} → n ≡ decodeNumber (W .codec) s →
+      (m ≡ imageAnswer n (imageSize W) (length out)) × (out′ ≡ imageCleared n (imageSize W) out) → (m ≡ 0 → ⊥) → ViewDecoded W s out m out′
   unfolding viewDecodeNumber viewDecodeOut
-  decoded-refused e h p =
-      let no = ne-eqb (decodeNumber (W .codec) s) 0 (λ z. h (e ∙ z)) in
-      record { number = simp no e; output = simp no p }
-
-  pub decoded-short : decodeNumber (W .codec) s ≡ 0 → length out < imageSize W → ViewDecoded W s out 4 out
-  unfolding viewDecodeNumber viewDecodeOut
-  decoded-short e h = record { number = simp (eq-eqb _ _ e, lt-leb _ _ h); output = simp (eq-eqb _ _ e, lt-leb _ _ h) }
-
--- of two tests that answer 2 and 1 where they fail, 0 says that both hold
-pub both-hold : (a b : Bool) → _≡_ {A = ℕ} (cond a (cond b 0 2) 1) 0 → (a ≡ true) × (b ≡ true)
-both-hold true true e = (refl, refl)
-both-hold true false e = absurd (omega arith)
-both-hold false b e = absurd (omega arith)
+  decoded-refused {n} e p h = record {
+    number = rw (sym e) (p .0);
+    output = rw (sym e) (p .1 ∙ none-shown (eqb n 0) (leb (imageSize W) (length out)) n _ _ _ (λ z. h (p .0 ∙ z)));
+  }
 
 module _ {R : Type 0} (C : Codec R) (Formed : R → Type 0) (L : Lawful C Formed) where
   -- the numbers of accepted bytes are those of their record
   pub told : (s : List ℕ) → Bytes s → decodeNumber C s ≡ 0 → C .fields (decodeValue C s) ≡ fieldsAt (C .layout) s 0
   unfolding decodeNumber decodeValue
   told s h e =
-      let both = both-hold (eqb (length s) (size (C .layout))) (C .ok (fieldsAt (C .layout) s 0)) e in
+      let both = both-hold (eqb (length s) (size (C .layout))) (C .ok (fieldsAt (C .layout) s 0)) 1 1 (λ f z. omega arith) e in
       simp (both .0, both .1) (L .back s 0 h (both .1))
 
 module _ {R : Type 0} (W : View R) (Formed : R → Type 0) (L : Viewable W Formed) {s out : List ℕ} where
-  pub decoded-shown : {out′ : List ℕ} → Bytes s → decodeNumber (W .codec) s ≡ 0 → imageSize W ≤ length out → out′ ≡ shown W s out → ViewDecoded W s out 0 out′
+  pub decoded-shown : {n m : ℕ} {mid out′ : List ℕ} → Bytes s → n ≡ decodeNumber (W .codec) s →
+      (m ≡ imageAnswer n (imageSize W) (length out)) × (mid ≡ imageCleared n (imageSize W) out) → m ≡ 0 → out′ ≡ shown W s mid → ViewDecoded W s out m out′
   unfolding viewDecodeNumber viewDecodeOut
-  decoded-shown h e room p =
+  decoded-shown {n} h e p m0 q =
+      let both = both-hold (eqb n 0) (leb (imageSize W) (length out)) 3 n (eqb-false n 0) (sym (p .0) ∙ m0) in
       let vs : List ℕ = fieldsAt (W .codec .layout) s 0 in
       let count : length (pick (W .slots) vs) ≡ length (wide (W .slots)) =
       length-pick (W .slots) vs (length-fields (W .codec .layout) s 0 ∙ sym (L .counted)) in
-      let there = puts-laid (wide (W .slots)) (pick (W .slots) vs) out 0 ∙ put-laid (wide (W .slots)) (pick (W .slots) vs) out count room in
+      let there = puts-laid (wide (W .slots)) (pick (W .slots) vs) out 0 ∙ put-laid (wide (W .slots)) (pick (W .slots) vs) out count (leb-true _ _ (both .1)) in
+      let same : _ ≡ out = p .1 ∙ simp (both .0) in
       record {
-        number = simp (eq-eqb _ _ e, le-leb _ _ room);
-        output = simp (eq-eqb _ _ e, le-leb _ _ room, told (W .codec) Formed (L .lawful) s h e) (p ∙ there);
+        number = rw (sym e) (p .0);
+        output = simp (sym e, both .0, both .1, told (W .codec) Formed (L .lawful) s h (sym e ∙ eqb-true n 0 (both .0))) (q ∙ ap (shown W s) same ∙ there);
       }
 
 -- ---- encoding
@@ -117,12 +124,7 @@ module _ {R : Type 0} (W : View R) (Formed : R → Type 0) (L : Viewable W Forme
 -- an encoder that answers 0 has a sound record and the room
 pub done-both : (b : Bool) (len room : ℕ) → encodeAnswer b len room ≡ 0 → (b ≡ true) × (len ≤ room)
 unfolding encodeAnswer
-done-both b len room z = let both = answered b (leb len room) z in (both .0, leb-true _ _ (both .1))
-  where
-    answered : (a b : Bool) → _≡_ {A = ℕ} (cond a (cond b 0 4) 3) 0 → (a ≡ true) × (b ≡ true)
-    answered true true z = (refl, refl)
-    answered true false z = absurd (omega arith)
-    answered false b z = absurd (omega arith)
+done-both b len room z = let both = both-hold b (leb len room) 3 3 (λ f z. omega arith) z in (both .0, leb-true _ _ (both .1))
 
 is-zero : (b : Bool) → eqb (cond b 0 2) 0 ≡ b
 is-zero true = refl

@@ -1,10 +1,17 @@
--- What the functions inside a view are held to: a layout stored field by field. What the exported functions promise does not rest on it:
--- the octets that stand in the end are those of `laid`. Assumes nothing.
-use Rattle.octets.specs.Words.{ℕ, zero, suc, _+_, List, take}
+-- What the functions inside a view are held to: a decoder's answer, and a layout stored field by field. What the exported functions
+-- promise does not rest on it: the octets that stand in the end are those of `laid`. Assumes nothing.
+use Rattle.octets.specs.Words.{ℕ, zero, suc, _+_, cond, List, take, eqb, leb}
 use Rattle.octets.specs.Octets.{octetsAt, le, leBytes, put}
 use Rattle.octets.specs.Layout.{fieldsAt}
 use Rattle.octets.specs.Stores.{puts}
-use Rattle.export.specs.View.{View, pick, wide, numbers}
+use Rattle.export.specs.View.{View, pick, wide, cleared, numbers}
+
+-- of a decoder's number and room for an image of n octets: what is answered, and what stands there before a record is shown
+abbrev pub imageAnswer : ℕ → ℕ → ℕ → ℕ
+imageAnswer number n room = cond (eqb number 0) (cond (leb n room) 0 4) number
+
+abbrev pub imageCleared : ℕ → ℕ → List ℕ → List ℕ
+imageCleared number n out = cond (eqb number 0) out (cleared n out)
 
 -- d with the own numbers of the bytes s as an image at the start
 abbrev pub shown : {R : Type 0} → View R → List ℕ → List ℕ → List ℕ

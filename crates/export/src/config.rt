@@ -62,16 +62,12 @@ fn is_sound(fields: &[u8]) -> bool
 pub extern "C" fn threadwicket_config_decode(bytes: &[u8], fields: &mut [u8]) -> u32
     ensures { λ r. ⌜ ViewDecoded configView (now (bytes .entry)) (now (fields .entry)) r (now (fields .exit)) ⌝ }
 {
-    let number = FenceConfig::decode(bytes).number;
-    if number != 0 {
-        crate::view::clear(fields, FIELDS);
-        return number;
+    let read = FenceConfig::decode(bytes).number;
+    let number = crate::view::decode_number(read, fields, FIELDS);
+    if number == 0 {
+        show(bytes, fields);
     }
-    if fields.len() < FIELDS {
-        return 4;
-    }
-    show(bytes, fields);
-    0
+    number
 }
 
 // From fields to bytes.

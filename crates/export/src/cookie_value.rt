@@ -24,16 +24,12 @@ fn is_sound(fields: &[u8]) -> bool
 pub extern "C" fn threadwicket_cookie_value_decode(bytes: &[u8], fields: &mut [u8]) -> u32
     ensures { λ r. ⌜ ViewDecoded cookieValueView (now (bytes .entry)) (now (fields .entry)) r (now (fields .exit)) ⌝ }
 {
-    let number = FenceCookieValue::decode(bytes).number;
-    if number != 0 {
-        crate::view::clear(fields, FIELDS);
-        return number;
+    let read = FenceCookieValue::decode(bytes).number;
+    let number = crate::view::decode_number(read, fields, FIELDS);
+    if number == 0 {
+        crate::view::show_control(bytes, fields, 4);
     }
-    if fields.len() < FIELDS {
-        return 4;
-    }
-    crate::view::show_control(bytes, fields, 4);
-    0
+    number
 }
 
 // From fields to bytes.

@@ -21,16 +21,12 @@ fn is_sound(fields: &[u8]) -> bool
 pub extern "C" fn threadwicket_key_decode(bytes: &[u8], fields: &mut [u8]) -> u32
     ensures { λ r. ⌜ ViewDecoded keyView (now (bytes .entry)) (now (fields .entry)) r (now (fields .exit)) ⌝ }
 {
-    let number = FenceCookieKey::decode(bytes).number;
-    if number != 0 {
-        crate::view::clear(fields, FIELDS);
-        return number;
+    let read = FenceCookieKey::decode(bytes).number;
+    let number = crate::view::decode_number(read, fields, FIELDS);
+    if number == 0 {
+        crate::view::copy(bytes, 0, fields, 0, 2);
     }
-    if fields.len() < FIELDS {
-        return 4;
-    }
-    crate::view::copy(bytes, 0, fields, 0, 2);
-    0
+    number
 }
 
 // From fields to bytes.

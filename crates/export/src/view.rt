@@ -1,11 +1,11 @@
-// What the views of the records share: the zeros of a refusal, and numbers moved between a record's bytes and its fields.
-ghost use Rattle.octets.specs.Words.{_+_, _*_, _≤_, _≡_};
+// What the views of the records share: a decoder's answer, the zeros of a refusal, and numbers moved between a record's bytes and its fields.
+ghost use Rattle.octets.specs.Words.{_+_, _*_, _≤_, _≡_, length};
 ghost use Rattle.octets.specs.Octets.{octetsAt, le, be, put, leBytes, beBytes};
 ghost use Rattle.export.specs.View.{cleared};
-ghost use Rattle.export.specs.Steps.{copied, controlShown, controlWritten};
+ghost use Rattle.export.specs.Steps.{imageAnswer, imageCleared, copied, controlShown, controlWritten};
 
 // Zeros in the first n bytes of a slice that has so many.
-pub(crate) fn clear(d: &mut [u8], n: usize)
+fn clear(d: &mut [u8], n: usize)
     ensures { λ r. ⌜ now (d .exit) ≡ cleared n (now (d .entry)) ⌝ }
 {
     if d.len() < n {
@@ -16,6 +16,18 @@ pub(crate) fn clear(d: &mut [u8], n: usize)
         d[i] = 0;
         i += 1;
     }
+}
+
+// What is answered of a decoder's number and room for an image of n bytes: a refusal as it is, with zeros for an image where there is room;
+// 4 where there is none; else 0.
+pub(crate) fn decode_number(number: u32, fields: &mut [u8], n: usize) -> u32
+    ensures { λ r. ⌜ (r ≡ imageAnswer number n (length (now (fields .entry)))) × (now (fields .exit) ≡ imageCleared number n (now (fields .entry))) ⌝ }
+{
+    if number != 0 {
+        clear(fields, n);
+        return number;
+    }
+    if fields.len() < n { 4 } else { 0 }
 }
 
 // n numbers of eight bytes, from the place i of one slice to the place j of another.

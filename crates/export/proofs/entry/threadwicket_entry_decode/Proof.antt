@@ -1,31 +1,27 @@
 -- `threadwicket_entry_decode`: the answers of every decoder into an image. Assumes nothing.
-use Rattle.octets.proofs.Tools.{sym, _∙_, free}
+use Rattle.octets.proofs.Tools.{needs, free}
 use lib.Dec.{lit≤}
 use Rattle.records.proofs.EntryLaws.{Formed}
 use Rattle.export.specs.Views.{entryView}
-use Rattle.export.proofs.ViewLaws.{decoded-refused, decoded-short, decoded-shown}
+use Rattle.export.proofs.ViewLaws.{decoded-refused, decoded-shown}
 use Rattle.export.proofs.Viewables.{entry-viewable}
 use Rattle.export.proofs.entry.threadwicket_entry_decode.Statement.{statement}
 use Rattle.export.proofs.entry.threadwicket_entry_decode.Tie as tie
 
 returns : tie.Need-returns
 returns c =
-    let refused = c .before .before .before .before in
-    decoded-refused entryView (refused .before .decode .ensures .number) (refused .if1 .taken) (c .before .before .clear .ensures)
+    let shown = c .before .before in
+    let done = shown .before .before in
+    let answered = done .before .before .before in
+    let read = answered .before .before in
+    decoded-shown entryView Formed entry-viewable (λ k. read .before .before .shared-slice-known .given k .fits) (read .decode .ensures .number)
+    (answered .decode-number .ensures) (done .if1 .taken) (shown .show-control .ensures)
 
 returns-2 : tie.Need-returns-2
-returns-2 c = decoded-short entryView (sym (c .before .before .decode .ensures .number) ∙ c .before .if1 .left) (c .if2 .taken)
-
-returns-3 : tie.Need-returns-3
-returns-3 c =
-    let shown = c .before .before in
-    let roomy = shown .before .before in
-    let read = roomy .before .before in
-    let known = read .before .before in
-    decoded-shown entryView Formed entry-viewable (λ k. known .shared-slice-known .given k .fits)
-    (sym (read .decode .ensures .number) ∙ roomy .before .if1 .left) (roomy .if2 .left) (shown .show-control .ensures)
+returns-2 c =
+    let answered = c .before .before .before in
+    decoded-refused entryView (answered .before .before .decode .ensures .number) (answered .decode-number .ensures) (c .if1 .left)
 
 pub threadwicket-entry-decode-spec : {M : Type 1} → statement M
 threadwicket-entry-decode-spec =
-    tie.close
-    (tie.spec free free (λ c. c .before .before .clear .kept .0) returns returns-2 (λ c κs. lit≤ tt) (λ c. c .before .before .show-control .kept .1 .0) returns-3)
+    tie.close (tie.spec free free (λ c κs. lit≤ tt) (λ c. search needs) returns (λ c. search needs) returns-2)
