@@ -2,8 +2,8 @@
 // accepted record its encoding. 24 to 30 have an output's length and a record's bytes: the record is decoded and encoded again into an
 // output of that length, which holds a5 throughout; the answer is the number and the output.
 use crate::fields;
+use config::FenceConfig;
 use inspection::FenceInspection;
-use records::config::FenceConfig;
 use records::cookie_value::FenceCookieValue;
 use records::current::CurrentFenceToken;
 use records::entry::FenceEntry;

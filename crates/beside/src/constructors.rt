@@ -2,10 +2,10 @@
 // as its bytes, which are decoded first.
 use crate::fields;
 use crate::leaves;
+use config::FenceConfig;
 use inspection::FenceInspection;
 use inspection::InspectionAnswer;
 use inspection::inspected::InspectedEntry;
-use records::config::FenceConfig;
 use records::cookie_value::FenceCookieValue;
 use records::current::CurrentFenceToken;
 use records::entry::FenceEntry;

@@ -1,8 +1,8 @@
 // The fields of each record, by their accessors, as an answer has them.
+use config::FenceConfig;
 use endpoint::ProtectedEndpoint;
 use inspection::FenceInspection;
 use inspection::inspected::InspectedEntry;
-use records::config::FenceConfig;
 use records::cookie_value::FenceCookieValue;
 use records::current::CurrentFenceToken;
 use records::entry::FenceEntry;

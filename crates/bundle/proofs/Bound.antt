@@ -5,7 +5,7 @@ use Rattle.octets.specs.Words.{ℕ, zero, suc, _+_, _*_, _-_, _/_, _%_, _^_, _<
 use Rattle.octets.proofs.Tools.{refl, arith, le-leb, lt-ltb, ltb-false, leb-true, leb-false}
 use native.Mathlib.Nat.{pow-suc}
 use lib.ListN.{length-append}
-use Rattle.records.specs.Config.{configCodec}
+use Rattle.config.specs.Config.{configCodec}
 use Rattle.packet.proofs.Count.{count-at-most-4}
 use Rattle.verdict.specs.Verdict.{slotOf}
 use Rattle.verdict.specs.declared.FenceVerdict.{FenceVerdict}

@@ -5,7 +5,7 @@ use Rattle.octets.proofs.Tools.{refl}
 use Rattle.octets.specs.Octets.{octetsAt, le, be, leBytes, beBytes, allZero, sameOctets}
 use Rattle.octets.specs.Codec.{decodeNumber, decodeValue}
 use Rattle.endpoint.specs.Endpoint.{usableIpv4, usableIpv6, soundEndpoint}
-use Rattle.records.specs.Config.{frameRule}
+use Rattle.config.specs.Config.{frameRule}
 use Rattle.records.specs.Current.{currentRule}
 use Rattle.records.specs.Entry.{stateRule}
 use Rattle.records.specs.CookieValue.{cookieValueRule}

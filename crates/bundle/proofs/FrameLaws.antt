@@ -6,7 +6,7 @@ use lib.ListN.{length-replicate, replicate-append-replicate}
 use lib.Seq.{take-at}
 use Rattle.octets.specs.Octets.{Bytes, octetsAt, le, leBytes, put}
 use Rattle.octets.proofs.OctetsLaws.{length-octets, octets-append, octets-drop, leBytes-le, Bytes-octets}
-use Rattle.records.proofs.AddressLaws.{stored}
+use Rattle.config.proofs.AddressLaws.{stored}
 use Rattle.gate.specs.Gate.{Answer, gateOf}
 use Rattle.gate.specs.declared.Socket.{Socket}
 use Rattle.bundle.specs.Feed.{onward, Less, Falls}

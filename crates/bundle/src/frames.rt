@@ -1,8 +1,8 @@
 // The frames of a bundle: what stands at an offset, what is in force there, and a packet judged by it.
 use crate::text;
+use config::FenceConfig;
 use gate::GateAnswer;
 use gate::Socket;
-use records::config::FenceConfig;
 use records::cookie_value::FenceCookieValue;
 use records::current::CurrentFenceToken;
 use units::BootNs;

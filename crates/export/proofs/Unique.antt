@@ -42,10 +42,10 @@ threadwicket-cookie-value-decode-determined κs a x y u v p q = (p .number ∙ s
 pub threadwicket-cookie-value-encode-determined : Determined the.cookie_value.threadwicket_cookie_value_encode.Kinds.ps the.cookie_value.threadwicket_cookie_value_encode.Kinds.r the.cookie_value.threadwicket_cookie_value_encode.Reads.Learnt
 threadwicket-cookie-value-encode-determined κs a x y u v p q = (p .number ∙ sym (q .number), λ i. (u .0, ((p .output ∙ sym (q .output)) i, u .1 .1)))
 
-pub threadwicket-config-decode-determined : Determined the.config.threadwicket_config_decode.Kinds.ps the.config.threadwicket_config_decode.Kinds.r the.config.threadwicket_config_decode.Reads.Learnt
+pub threadwicket-config-decode-determined : Determined the.config_view.threadwicket_config_decode.Kinds.ps the.config_view.threadwicket_config_decode.Kinds.r the.config_view.threadwicket_config_decode.Reads.Learnt
 threadwicket-config-decode-determined κs a x y u v p q = (p .number ∙ sym (q .number), λ i. (u .0, ((p .output ∙ sym (q .output)) i, u .1 .1)))
 
-pub threadwicket-config-encode-determined : Determined the.config.threadwicket_config_encode.Kinds.ps the.config.threadwicket_config_encode.Kinds.r the.config.threadwicket_config_encode.Reads.Learnt
+pub threadwicket-config-encode-determined : Determined the.config_view.threadwicket_config_encode.Kinds.ps the.config_view.threadwicket_config_encode.Kinds.r the.config_view.threadwicket_config_encode.Reads.Learnt
 threadwicket-config-encode-determined κs a x y u v p q = (p .number ∙ sym (q .number), λ i. (u .0, ((p .output ∙ sym (q .output)) i, u .1 .1)))
 
 pub threadwicket-inspection-decode-determined : Determined the.inspection_view.threadwicket_inspection_decode.Kinds.ps the.inspection_view.threadwicket_inspection_decode.Kinds.r the.inspection_view.threadwicket_inspection_decode.Reads.Learnt

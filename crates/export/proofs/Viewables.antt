@@ -12,7 +12,7 @@ use Rattle.records.proofs.CurrentLaws as current
 use Rattle.records.proofs.PlainLaws as plain
 use Rattle.records.proofs.EntryLaws as entry
 use Rattle.records.proofs.CookieValueLaws as value
-use Rattle.records.proofs.ConfigLaws as config
+use Rattle.config.proofs.ConfigLaws as config
 use Rattle.inspection.proofs.InspectionLaws as inspected
 use Rattle.export.specs.View.{pick, spread}
 use Rattle.export.specs.Views.{currentView, mutationView, keyView, entryView, cookieValueView, configView, inspectionView}

@@ -6,14 +6,14 @@ use Rattle.records.specs.declared.mutation.FenceMutationAuthority.{FenceMutatio
 use Rattle.records.specs.declared.key.FenceCookieKey.{FenceCookieKey}
 use Rattle.records.specs.declared.entry.FenceEntry.{FenceEntry}
 use Rattle.records.specs.declared.cookie_value.FenceCookieValue.{FenceCookieValue}
-use Rattle.records.specs.declared.config.FenceConfig.{FenceConfig}
+use Rattle.config.specs.declared.FenceConfig.{FenceConfig}
 use Rattle.inspection.specs.declared.FenceInspection.{FenceInspection}
 use Rattle.records.specs.Current.{currentCodec}
 use Rattle.records.specs.Mutation.{mutationCodec}
 use Rattle.records.specs.Key.{keyCodec}
 use Rattle.records.specs.Entry.{entryCodec}
 use Rattle.records.specs.CookieValue.{cookieValueCodec}
-use Rattle.records.specs.Config.{configMark, configCodec}
+use Rattle.config.specs.Config.{configMark, configCodec}
 use Rattle.inspection.specs.Inspection.{inspectionMark, inspectionCodec}
 use Rattle.export.specs.View.{own, fixed, View}
 

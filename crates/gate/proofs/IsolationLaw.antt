@@ -4,7 +4,7 @@
 use Rattle.octets.specs.Words.{ℕ, suc, _≡_, Bool, true, false, cond, not, _&&_, _||_, length, drop, eqb}
 use Rattle.octets.proofs.Tools.{refl, sym, ap, _∙_, true≢false, not-false}
 use Rattle.octets.specs.Codec.{decodeValue}
-use Rattle.records.specs.Config.{configCodec}
+use Rattle.config.specs.Config.{configCodec}
 use Rattle.records.specs.Current.{currentCodec}
 use Rattle.records.specs.Entry.{closed}
 use Rattle.records.specs.CookieValue.{cookieValueCodec}

@@ -7,7 +7,7 @@ use Rattle.endpoint.specs.declared.ProtectedEndpoint.{ProtectedEndpoint}
 use Rattle.packet.specs.Reading.{classifyOf}
 use Rattle.gate.specs.declared.Socket.{Socket}
 use Rattle.gate.specs.Table.{records, under, firstOf}
-use Rattle.records.specs.Config.{configCodec}
+use Rattle.config.specs.Config.{configCodec}
 use Rattle.verdict.specs.Verdict.{slotOf}
 use Rattle.verdict.specs.declared.CounterSlot.{CounterSlot}
 use Rattle.gate.specs.Gate.{Call, Rule, allow, rules, firstRule, answering, decodes, matches, root, endpoint, headersOf, gateOf}

@@ -6,7 +6,7 @@ use Rattle.octets.specs.Octets.{octetsAt, le, be, leBytes, beBytes, allZero, sa
 use Rattle.octets.specs.Codec.{bytes, decodeNumber, decodeValue}
 use Rattle.endpoint.specs.Endpoint.{usableIpv4, usableIpv6, soundEndpoint}
 use Rattle.endpoint.specs.declared.ProtectedEndpoint.{ProtectedEndpoint}
-use Rattle.records.specs.Config.{frameRule, config, configCodec}
+use Rattle.config.specs.Config.{frameRule, config, configCodec}
 use Rattle.records.specs.Current.{currentRule, current, currentCodec}
 use Rattle.records.specs.Entry.{stateRule}
 use Rattle.records.specs.CookieValue.{cookieValueRule, cookieValue, cookieValueCodec}

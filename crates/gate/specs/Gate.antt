@@ -3,11 +3,11 @@ use Rattle.octets.specs.Words.{ℕ, Bool, true, cond, not, _&&_, _||_, List, []
 use Rattle.octets.specs.Octets.{octetsAt, sameOctets}
 use Rattle.octets.specs.Codec.{Codec, decodeNumber, decodeValue}
 use Rattle.endpoint.specs.declared.ProtectedEndpoint.{ProtectedEndpoint}
-use Rattle.records.specs.Config.{configCodec}
+use Rattle.config.specs.Config.{configCodec}
 use Rattle.records.specs.Current.{currentCodec}
 use Rattle.records.specs.Entry.{closed}
 use Rattle.records.specs.CookieValue.{cookieValueCodec}
-use Rattle.records.specs.declared.config.FenceConfig.{FenceConfig}
+use Rattle.config.specs.declared.FenceConfig.{FenceConfig}
 use Rattle.records.specs.declared.current.CurrentFenceToken.{CurrentFenceToken}
 use Rattle.records.specs.declared.cookie_value.FenceCookieValue.{FenceCookieValue}
 use Rattle.packet.specs.Reading.{Answer as Reading, classifyOf}

@@ -1,8 +1,8 @@
 // The joined gate: one call decides what becomes of a packet, from bytes as a hook finds them.
+use config::FenceConfig;
 use endpoint::ProtectedEndpoint;
 use packet::PacketEndpointDisposition;
 use packet::PacketReading;
-use records::config::FenceConfig;
 use records::cookie_value::FenceCookieValue;
 use records::current::CurrentFenceToken;
 use records::entry::FenceEntryState;

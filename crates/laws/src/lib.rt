@@ -8,8 +8,8 @@
 //   `be-parts`, `put-parts`, `put-parts-be`).
 // - Codecs, over the record. `octets/proofs/CodecLaws.antt`: accepted bytes encode to themselves and only sound records are given
 //   (`accepted`), sound records decode to themselves (`kept`), and an unsound record is given for no bytes (`never`). Each record
-//   shows what these ask of it, `Lawful`, in `records/proofs` and `inspection/proofs`: `current-lawful`, `mutation-lawful`, `key-lawful`,
-//   `entry-lawful`, `cookie-value-lawful`, `config-lawful`, `inspection-lawful`.
+//   shows what these ask of it, `Lawful`, in the `proofs` of `records`, `config` and `inspection`: `current-lawful`, `mutation-lawful`,
+//   `key-lawful`, `entry-lawful`, `cookie-value-lawful`, `config-lawful`, `inspection-lawful`.
 // - Uniqueness. `Unique.antt` in each crate's `proofs`: the answer of every public function is its contract's alone
 //   (`FUNCTION-determined`, `RECORD-determined`), and no two cases of an enum have one number (`decision-injective`, `disposition-injective`,
 //   `slot-injective`).

@@ -3,6 +3,4 @@ pub mod PlainLaws
 pub mod CurrentLaws
 pub mod EntryLaws
 pub mod CookieValueLaws
-pub mod AddressLaws
-pub mod ConfigLaws
 pub mod Unique

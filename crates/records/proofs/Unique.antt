@@ -10,7 +10,6 @@ use Rattle.records.proofs.key.FenceCookieKey as key
 use Rattle.records.proofs.entry.FenceEntryState as state
 use Rattle.records.proofs.entry.FenceEntry as entry
 use Rattle.records.proofs.cookie_value.FenceCookieValue as value
-use Rattle.records.proofs.config.FenceConfig as config
 
 pub current-determined : Determined current.from_fields.Kinds.ps current.from_fields.Kinds.r current.from_fields.Reads.Learnt
     × Determined current.initial.Kinds.ps current.initial.Kinds.r current.initial.Reads.Learnt
@@ -117,23 +116,6 @@ pub value-determined : Determined value.from_fields.Kinds.ps value.from_fields.K
 value-determined = (
   λ κs a x y u v p q. (λ i. record { number = (p .number ∙ sym (q .number)) i; value = (p .value ∙ sym (q .value)) i }, refl),
   λ κs a x y u v p q. (λ i. record { number = (p .number ∙ sym (q .number)) i; value = (p .value ∙ sym (q .value)) i }, refl),
-  λ κs a x y u v p q. (p ∙ sym q, refl),
-  λ κs a x y u v p q. (p ∙ sym q, refl),
-  λ κs a x y u v p q. (p ∙ sym q, refl),
-  λ κs a x y u v p q. (λ i. record { number = (p .number ∙ sym (q .number)) i; value = (p .value ∙ sym (q .value)) i }, refl),
-  λ κs a x y u v p q. (p .number ∙ sym (q .number), λ i. (u .0, ((p .output ∙ sym (q .output)) i, u .1 .1))),
-)
-
-pub config-determined : Determined config.new.Kinds.ps config.new.Kinds.r config.new.Reads.Learnt
-    × Determined config.endpoint.Kinds.ps config.endpoint.Kinds.r config.endpoint.Reads.Learnt
-    × Determined config.root_cgroup_id.Kinds.ps config.root_cgroup_id.Kinds.r config.root_cgroup_id.Reads.Learnt
-    × Determined config.capacity.Kinds.ps config.capacity.Kinds.r config.capacity.Reads.Learnt
-    × Determined config.is_sound.Kinds.ps config.is_sound.Kinds.r config.is_sound.Reads.Learnt
-    × Determined config.decode.Kinds.ps config.decode.Kinds.r config.decode.Reads.Learnt
-    × Determined config.encode.Kinds.ps config.encode.Kinds.r config.encode.Reads.Learnt
-config-determined = (
-  λ κs a x y u v p q. (λ i. record { number = (p .number ∙ sym (q .number)) i; value = (p .value ∙ sym (q .value)) i }, refl),
-  λ κs a x y u v p q. (p ∙ sym q, refl),
   λ κs a x y u v p q. (p ∙ sym q, refl),
   λ κs a x y u v p q. (p ∙ sym q, refl),
   λ κs a x y u v p q. (p ∙ sym q, refl),

@@ -5,4 +5,3 @@ pub mod Key
 pub mod Current
 pub mod Entry
 pub mod CookieValue
-pub mod Config

@@ -2,7 +2,7 @@
 use Rattle.octets.specs.Words.{ℕ, _≡_, false, not, _&&_, drop, eqb}
 use Rattle.octets.proofs.Tools.{refl, sym, ap, _∙_, needs}
 use denote.Ref.{now}
-use Rattle.records.specs.Config.{configCodec}
+use Rattle.config.specs.Config.{configCodec}
 use Rattle.packet.specs.Answers as packet
 use Rattle.packet.specs.declared.PacketEndpointDisposition.{PacketEndpointDisposition}
 use Rattle.packet.specs.declared.PacketEndpointDisposition.the-variants.{Protected, Unrelated, Indeterminate}

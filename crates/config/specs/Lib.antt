@@ -1,0 +1,2 @@
+-- The definitions that the contracts of `config` cite: the codec of a configuration. Assumes nothing.
+pub mod Config
