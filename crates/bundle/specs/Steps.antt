@@ -8,6 +8,7 @@ use Rattle.bundle.specs.declared.frames.Frame.{Frame}
 use Rattle.bundle.specs.declared.frames.Frame.the-variants as found
 use Rattle.bundle.specs.declared.frames.Cursor.{Cursor}
 
+-- what the frame that is found stands for
 abbrev pub frameIs : Frame → frame.Frame
 frameIs found.Config = frame.Config
 frameIs found.Current = frame.Current

@@ -8,6 +8,7 @@ use Rattle.packet.specs.declared.HeaderClass.the-variants.{Udp, NotUdp, 
 use Rattle.packet.specs.declared.Step.{Step}
 use Rattle.packet.specs.declared.Step.the-variants.{Stop, Pass}
 
+-- a class of next-header values by the number that `Reading` sorts them under
 abbrev pub classNumber : HeaderClass → ℕ
 classNumber Udp = 0
 classNumber NotUdp = 1

@@ -10,7 +10,7 @@ pub struct SocketCookie(pub u64);
 // The durable fence token: odd while a socket's lifecycle is open, even once it is retired.
 pub struct DurableFenceToken(pub u64);
 
-// The epoch of a socket's entry, which grows as its state is written; 1 at registration.
+// The control epoch of a socket's entry: 1 at registration, and never 0.
 pub struct ControlEpoch(pub u64);
 
 // The inode number of the root cgroup that the hook is attached to.
