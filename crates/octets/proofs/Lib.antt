@@ -4,4 +4,5 @@ pub mod SameLaws
 pub mod LayoutLaws
 pub mod CodecLaws
 pub mod Tools
+pub mod UniqueLaws
 pub mod Unique
