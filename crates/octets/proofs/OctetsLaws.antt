@@ -7,11 +7,11 @@ use Rattle.octets.proofs.Tools.{refl, sym, ap, _∙_, arith, eq-eqb, eq
 use mathlib.Core.Path.{subst}
 use native.Mathlib.Nat.{add-zero, zero-add, suc-add, add-suc, add-assoc, add-comm, mul-assoc, mul-comm, mul-add, div-div-eq-div-mul, pow-zero, pow-suc, pow-succ', div-one, one-mul, div-lt-iff-lt-mul, lt-of-lt-of-le}
 use native.Mathlib.Numerals.{add-one}
-use mathlib.Core.List.{reverse-append, reverse-cons, reverse-reverse}
-use lib.ListN.{length-append, length-reverse, length-set, List·getD-eq-default}
+use mathlib.Core.List.{append-assoc, reverse-append, reverse-cons, reverse-reverse}
+use lib.ListN.{length-append, length-reverse, length-set, length-drop, List·getD-eq-default}
 use lib.Arith.{mod-mul, digits-div, digits-mod}
 use lib.Dec.{lit<}
-use lib.Seq.{set-out, drop-cons, sets, sets-eq, append-snoc, getD-append-seam}
+use lib.Seq.{set-out, drop-cons, drop-drop, getD-take, getD-drop, sets, sets-eq, append-snoc, getD-append-seam}
 use Rattle.octets.specs.Octets.{Bytes, octetsAt, put, le, leBytes, be, beBytes, allZero, sameOctets}
 
 -- ---- the octets at a place
@@ -252,3 +252,26 @@ pub same-past-right : (a b : List ℕ) (i j n : ℕ) → length b ≤ j → same
 unfolding octetsAt sameOctets allZero
 same-past-right a b i j zero h = refl
 same-past-right a b i j (suc n) h = simp (List·getD-eq-default b 0 h, same-past-right a b (i + 1) (j + 1) n (omega arith))
+
+-- ---- a part of a list
+
+-- the octets of a part of m octets from the place k on, so far as they lie inside it, are those of the whole
+pub octets-part : (s : List ℕ) (k m i n : ℕ) → i + n ≤ m → octetsAt (take m (drop k s)) i n ≡ octetsAt s (k + i) n
+unfolding octetsAt
+octets-part s k m i zero h = refl
+octets-part s k m i (suc n) h =
+    let inside : i < m = omega arith in
+    let here : getD (take m (drop k s)) i 0 ≡ getD s (k + i) 0 = rw (getD-take, getD-drop) in
+    let next : k + (i + 1) ≡ k + i + 1 = omega arith in
+    rw (here, octets-part s k m (i + 1) n (omega arith), next)
+
+-- octets put into the part from the place k on stand in the whole from there on
+pub put-part : (d : List ℕ) (k : ℕ) (bs : List ℕ) → k + length bs ≤ length d → take k d ++ put (drop k d) 0 bs ≡ put d k bs
+put-part d k bs h =
+    let room : 0 + length bs ≤ length (drop k d) = rw length-drop (omega arith) in
+    rw (put-in (drop k d) 0 bs room, put-in d k bs h, zero-add, drop-drop, append-assoc)
+
+-- n octets spell a number below 256 ^ n, greatest octet first too
+pub be-below : (s : List ℕ) → Bytes s → be s < 256 ^ length s
+unfolding be
+be-below s h = rw length-reverse at (le-below (reverse s) (Bytes-reverse s h))

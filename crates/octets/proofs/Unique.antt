@@ -33,9 +33,6 @@ is-zero-determined κs a x y u v = as-told
 pub same-determined : Determined the.same.Kinds.ps the.same.Kinds.r the.same.Reads.Learnt
 same-determined κs a x y u v = as-told
 
-pub encode-number-determined : Determined the.encode_number.Kinds.ps the.encode_number.Kinds.r the.encode_number.Reads.Learnt
-encode-number-determined κs a x y u v = as-told
-
 pub put-u8-determined : Determined the.put_u8.Kinds.ps the.put_u8.Kinds.r the.put_u8.Reads.Learnt
 put-u8-determined κs a x y u v = as-left u v refl
 

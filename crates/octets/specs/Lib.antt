@@ -2,7 +2,4 @@
 pub mod Words
 pub mod Octets
 pub mod Lists
-pub mod Layout
-pub mod Stores
-pub mod Codec
 pub mod Determined

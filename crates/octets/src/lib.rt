@@ -1,11 +1,9 @@
-// Unsigned numbers of 8 to 64 bits at a place of a slice, in both octet orders, comparisons of parts of slices, and the number that an
-// encoder answers.
+// Unsigned numbers of 8 to 64 bits at a place of a slice, in both octet orders, and comparisons of parts of slices.
 //
 // Every function is total: an octet past the end of a slice reads as 0, and one written there is dropped. So a caller has no
 // fact to show. A caller that has tested the length first pays for no second test: the compiler folds them.
 ghost use Rattle.octets.specs.Words.{_≡_};
 ghost use Rattle.octets.specs.Octets.{octetsAt, le, be, put, leBytes, beBytes, allZero, sameOctets};
-ghost use Rattle.octets.specs.Codec.{encodeAnswer};
 
 pub fn get_u8(s: &[u8], at: usize) -> u8
     ensures { λ r. ⌜ r ≡ le (octetsAt (now (s .entry)) at 1) ⌝ }
@@ -206,17 +204,4 @@ pub fn same(a: &[u8], i: usize, b: &[u8], j: usize, n: usize) -> bool
         left -= 1;
     }
     true
-}
-
-// ---- answers of a codec
-
-// What an encoder answers: 3 the record is unsound, 4 there is less room than the record's length, 0 done.
-pub fn encode_number(sound: bool, len: usize, room: usize) -> u32
-    ensures { λ r. ⌜ r ≡ encodeAnswer sound len room ⌝ }
-{
-    if sound {
-        if len <= room { 0 } else { 4 }
-    } else {
-        3
-    }
 }

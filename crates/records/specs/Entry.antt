@@ -1,5 +1,5 @@
 -- Document 01, 'Record layouts': "Entry, 32: four zeros, control, token, deadline, epoch." Assumes nothing.
-use Rattle.records.specs.Words.{ℕ, _%_, Bool, true, false, cond, not, _&&_, [], _∷_, getD, eqb, little, Codec}
+use Rattle.records.specs.Words.{ℕ, _%_, _^_, _<_, Bool, true, false, cond, not, [], _∷_, getD, eqb, among, little, test, Codec}
 use Rattle.records.specs.declared.entry.FenceEntryState.{FenceEntryState}
 use Rattle.records.specs.declared.entry.FenceEntryState.the-variants.{InitialClosed, Active, TerminalClosed, Reclaiming}
 use Rattle.records.specs.declared.entry.FenceEntry.{FenceEntry}
@@ -19,22 +19,21 @@ stateFrom k =
     (cond (eqb k (controlOf Reclaiming)) Reclaiming
     InitialClosed))
 
--- of control, deadline, epoch. InitialClosed: deadline 0, epoch 1. Active: deadline not 0. TerminalClosed and Reclaiming: deadline 0.
--- There is no other control
-abbrev pub deadlineRule : ℕ → ℕ → ℕ → Bool
-deadlineRule k d e =
-    cond (eqb k (controlOf InitialClosed)) (eqb d 0 && eqb e 1)
-    (cond (eqb k (controlOf Active)) (not (eqb d 0))
-    (cond (eqb k (controlOf TerminalClosed)) (eqb d 0)
-    (cond (eqb k (controlOf Reclaiming)) (eqb d 0)
-    false)))
+-- a control word is one of the four
+unfoldable pub stateListed : ℕ → Bool
+stateListed k = among k (controlOf InitialClosed ∷ controlOf Active ∷ controlOf TerminalClosed ∷ controlOf Reclaiming ∷ [])
 
--- of control, token, deadline, epoch: "Token odd, epoch not 0", and what the control asks
-unfoldable pub stateRule : ℕ → ℕ → ℕ → ℕ → Bool
-stateRule k t d e = not (eqb (t % 2) 0) && (not (eqb e 0) && deadlineRule k d e)
+-- "Token odd"
+abbrev pub oddToken : ℕ → Bool
+oddToken t = not (eqb (t % 2) 0)
 
-unfoldable pub entryRule : ℕ → ℕ → ℕ → ℕ → ℕ → Bool
-entryRule z k t d e = eqb z 0 && stateRule k t d e
+-- of control and deadline: "Active: deadline not 0"; of the other three, "deadline 0"
+unfoldable pub deadlineFits : ℕ → ℕ → Bool
+deadlineFits k d = cond (eqb k (controlOf Active)) (not (eqb d 0)) (eqb d 0)
+
+-- of control and epoch: InitialClosed, "epoch 1"; of the other three, "epoch not 0"
+unfoldable pub epochFits : ℕ → ℕ → Bool
+epochFits k e = cond (eqb k (controlOf InitialClosed)) (eqb e 1) (not (eqb e 0))
 
 abbrev pub entry : FenceEntryState → ℕ → ℕ → ℕ → FenceEntry
 entry st t d e = record { state = st; «durable_fence_token» = record { 0 = t }; «deadline_boot_ns» = record { 0 = d }; «control_epoch» = record { 0 = e } }
@@ -42,11 +41,20 @@ entry st t d e = record { state = st; «durable_fence_token» = record { 0 = t }
 abbrev pub entryCodec : Codec FenceEntry
 entryCodec = record {
   layout = little 4 ∷ little 4 ∷ little 8 ∷ little 8 ∷ little 8 ∷ [];
-  ok = λ vs. entryRule (getD vs 0 0) (getD vs 1 0) (getD vs 2 0) (getD vs 3 0) (getD vs 4 0);
+  tests =
+      test 0 (λ vs. eqb (getD vs 0 0) 0) ∷
+      test 4 (λ vs. stateListed (getD vs 1 0)) ∷
+      test 8 (λ vs. oddToken (getD vs 2 0)) ∷
+      test 16 (λ vs. deadlineFits (getD vs 1 0) (getD vs 3 0)) ∷
+      test 24 (λ vs. epochFits (getD vs 1 0) (getD vs 4 0)) ∷ [];
   of = λ vs. entry (stateFrom (getD vs 1 0)) (getD vs 2 0) (getD vs 3 0) (getD vs 4 0);
   fields = λ v. 0 ∷ controlOf (v .state) ∷ v .«durable_fence_token» .0 ∷ v .«deadline_boot_ns» .0 ∷ v .«control_epoch» .0 ∷ [];
   blank = entry InitialClosed 0 0 0;
 }
+
+-- a value of its type
+abbrev pub EntryFormed : FenceEntry → Type 0
+EntryFormed v = (v .«durable_fence_token» .0 < 2 ^ 64) × (v .«deadline_boot_ns» .0 < 2 ^ 64) × (v .«control_epoch» .0 < 2 ^ 64)
 
 -- every state but Active is closed; one is terminal, one is being reclaimed (lib.rs, `is_closed`, `is_terminal`, `is_reclaiming`)
 abbrev pub closed : FenceEntryState → Bool

@@ -5,3 +5,4 @@ pub mod Key
 pub mod Current
 pub mod Entry
 pub mod CookieValue
+pub mod Promises

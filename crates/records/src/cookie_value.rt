@@ -6,8 +6,8 @@ use units::BootNs;
 use units::ControlEpoch;
 use units::DurableFenceToken;
 use units::SocketCookie;
-ghost use Rattle.records.specs.Words.{_≡_, [], _∷_, asking, Built, Decoded, Encoded, sound};
-ghost use Rattle.records.specs.CookieValue.{cookieValueRule, cookieValue, cookieValueCodec, keyOf, entryOf, agreeing, pairFields};
+ghost use Rattle.records.specs.Words.{_≡_, [], _∷_, put, asking, ok, bytes, Built, Decoded, Encoded, sound};
+ghost use Rattle.records.specs.CookieValue.{cookieValue, cookieValueCodec, keyOf, entryOf, agreeing, pairFields};
 
 pub struct FenceCookieValue {
     pub state: FenceEntryState,
@@ -22,31 +22,73 @@ pub struct CookieValueAnswer {
     pub value: FenceCookieValue,
 }
 
-fn rule(zeros: u32, control: u32, cookie: u64, token: u64, deadline: u64, epoch: u64) -> bool
-    ensures { λ r. ⌜ r ≡ cookieValueRule zeros control cookie token deadline epoch ⌝ }
+fn rule(
+    zeros: u32,
+    control: u32,
+    cookie: SocketCookie,
+    token: DurableFenceToken,
+    deadline: BootNs,
+    epoch: ControlEpoch,
+) -> bool
+    ensures { λ r. ⌜ r ≡ ok cookieValueCodec (zeros ∷ control ∷ cookie .0 ∷ token .0 ∷ deadline .0 ∷ epoch .0 ∷ []) ⌝ }
 {
-    zeros == 0 && (cookie != 0 && crate::entry::state_rule(control, token, deadline, epoch))
+    (zeros == 0)
+        & (crate::entry::is_listed(control)
+            & ((cookie.0 != 0) & crate::entry::state_fits(control, token, deadline, epoch)))
 }
 
 fn answer(
     number: u32,
     state: FenceEntryState,
-    cookie: u64,
-    token: u64,
-    deadline: u64,
-    epoch: u64,
+    socket_cookie: SocketCookie,
+    durable_fence_token: DurableFenceToken,
+    deadline_boot_ns: BootNs,
+    control_epoch: ControlEpoch,
 ) -> CookieValueAnswer
-    ensures { λ r. ⌜ (r .number ≡ number) × (r .value ≡ cookieValue state cookie token deadline epoch) ⌝ }
+    ensures { λ r. ⌜ (r .number ≡ number) × (r .value ≡ cookieValue state («socket_cookie» .0) («durable_fence_token» .0) («deadline_boot_ns» .0) («control_epoch» .0)) ⌝ }
 {
     CookieValueAnswer {
         number,
         value: FenceCookieValue {
             state,
-            socket_cookie: SocketCookie(cookie),
-            durable_fence_token: DurableFenceToken(token),
-            deadline_boot_ns: BootNs(deadline),
-            control_epoch: ControlEpoch(epoch),
+            socket_cookie,
+            durable_fence_token,
+            deadline_boot_ns,
+            control_epoch,
         },
+    }
+}
+
+// A refusal.
+fn refused(number: u32) -> CookieValueAnswer
+    ensures { λ r. ⌜ (r .number ≡ number) × (r .value ≡ cookieValueCodec .blank) ⌝ }
+{
+    answer(
+        number,
+        FenceEntryState::InitialClosed,
+        SocketCookie(0),
+        DurableFenceToken(0),
+        BootNs(0),
+        ControlEpoch(0),
+    )
+}
+
+// What the six numbers of the layout give.
+fn from_fields(
+    zeros: u32,
+    control: u32,
+    cookie: SocketCookie,
+    token: DurableFenceToken,
+    deadline: BootNs,
+    epoch: ControlEpoch,
+) -> CookieValueAnswer
+    ensures { λ r. ⌜ Built cookieValueCodec (zeros ∷ control ∷ cookie .0 ∷ token .0 ∷ deadline .0 ∷ epoch .0 ∷ []) (r .number) (r .value) ⌝ }
+{
+    if rule(zeros, control, cookie, token, deadline, epoch) {
+        let state = FenceEntryState::from_control(control);
+        answer(0, state, cookie, token, deadline, epoch)
+    } else {
+        refused(2)
     }
 }
 
@@ -62,38 +104,19 @@ fn agree(key: FenceCookieKey, entry: FenceEntry) -> bool
 impl FenceCookieValue {
     pub const LEN: usize = 40;
 
-    // What the six numbers of the layout give, for whatever reads them.
-    pub fn from_fields(
-        zeros: u32,
-        control: u32,
-        cookie: SocketCookie,
-        token: DurableFenceToken,
-        deadline: BootNs,
-        epoch: ControlEpoch,
-    ) -> CookieValueAnswer
-        ensures { λ r. ⌜ Built cookieValueCodec (zeros ∷ control ∷ cookie .0 ∷ token .0 ∷ deadline .0 ∷ epoch .0 ∷ []) (r .number) (r .value) ⌝ }
-    {
-        if rule(zeros, control, cookie.0, token.0, deadline.0, epoch.0) {
-            let state = FenceEntryState::from_control(control);
-            answer(0, state, cookie.0, token.0, deadline.0, epoch.0)
-        } else {
-            answer(2, FenceEntryState::InitialClosed, 0, 0, 0, 0)
-        }
-    }
-
     // A key and an entry of the same token.
     pub fn new(key: FenceCookieKey, entry: FenceEntry) -> CookieValueAnswer
         ensures { λ r. ⌜ Built (asking (agreeing key entry) cookieValueCodec) (pairFields key entry) (r .number) (r .value) ⌝ }
     {
         if !agree(key, entry) {
-            return answer(2, FenceEntryState::InitialClosed, 0, 0, 0, 0);
+            return refused(2);
         }
         let state = entry.state;
         let cookie = key.socket_cookie;
         let token = key.durable_fence_token;
         let deadline = entry.deadline_boot_ns;
         let epoch = entry.control_epoch;
-        FenceCookieValue::from_fields(0, state.control(), cookie, token, deadline, epoch)
+        from_fields(0, state.control(), cookie, token, deadline, epoch)
     }
 
     pub fn key(self) -> FenceCookieKey
@@ -126,21 +149,18 @@ impl FenceCookieValue {
         ensures { λ r. ⌜ r ≡ sound cookieValueCodec self ⌝ }
     {
         let state = self.state;
-        rule(
-            0,
-            state.control(),
-            self.socket_cookie.0,
-            self.durable_fence_token.0,
-            self.deadline_boot_ns.0,
-            self.control_epoch.0,
-        )
+        let cookie = self.socket_cookie;
+        let token = self.durable_fence_token;
+        let deadline = self.deadline_boot_ns;
+        let epoch = self.control_epoch;
+        rule(0, state.control(), cookie, token, deadline, epoch)
     }
 
     pub fn decode(s: &[u8]) -> CookieValueAnswer
         ensures { λ r. ⌜ Decoded cookieValueCodec (now (s .entry)) (r .number) (r .value) ⌝ }
     {
         if s.len() != FenceCookieValue::LEN {
-            return answer(1, FenceEntryState::InitialClosed, 0, 0, 0, 0);
+            return refused(1);
         }
         let zeros = octets::get_u32_le(s, 0);
         let control = octets::get_u32_le(s, 4);
@@ -148,22 +168,30 @@ impl FenceCookieValue {
         let token = DurableFenceToken(octets::get_u64_le(s, 16));
         let deadline = BootNs(octets::get_u64_le(s, 24));
         let epoch = ControlEpoch(octets::get_u64_le(s, 32));
-        FenceCookieValue::from_fields(zeros, control, cookie, token, deadline, epoch)
+        from_fields(zeros, control, cookie, token, deadline, epoch)
     }
 
     pub fn encode(self, out: &mut [u8]) -> u32
         ensures { λ r. ⌜ Encoded cookieValueCodec self (now (out .entry)) r (now (out .exit)) ⌝ }
     {
-        let number = octets::encode_number(self.is_sound(), FenceCookieValue::LEN, out.len());
+        let number = codec::encode_number(self.is_sound(), FenceCookieValue::LEN, out.len());
         if number == 0 {
-            let state = self.state;
-            octets::put_u32_le(out, 0, 0);
-            octets::put_u32_le(out, 4, state.control());
-            octets::put_u64_le(out, 8, self.socket_cookie.0);
-            octets::put_u64_le(out, 16, self.durable_fence_token.0);
-            octets::put_u64_le(out, 24, self.deadline_boot_ns.0);
-            octets::put_u64_le(out, 32, self.control_epoch.0);
+            self.write(out);
         }
         number
+    }
+
+    // The record's fields, put at the start of a slice, for whatever holds the record as a part; octets past the end are dropped. It
+    // does not ask whether the record is sound.
+    pub fn write(self, out: &mut [u8])
+        ensures { λ r. ⌜ now (out .exit) ≡ put (now (out .entry)) 0 (bytes cookieValueCodec self) ⌝ }
+    {
+        let state = self.state;
+        octets::put_u32_le(out, 0, 0);
+        octets::put_u32_le(out, 4, state.control());
+        octets::put_u64_le(out, 8, self.socket_cookie.0);
+        octets::put_u64_le(out, 16, self.durable_fence_token.0);
+        octets::put_u64_le(out, 24, self.deadline_boot_ns.0);
+        octets::put_u64_le(out, 32, self.control_epoch.0);
     }
 }

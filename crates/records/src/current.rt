@@ -1,8 +1,8 @@
 // The current record, 24 bytes: the durable token in force, and the socket cookie registered under it.
 use units::DurableFenceToken;
 use units::SocketCookie;
-ghost use Rattle.records.specs.Words.{_≡_, not, [], _∷_, eqb, asking, Built, Decoded, Encoded, sound};
-ghost use Rattle.records.specs.Current.{current, currentRule, currentControl, currentCodec, lifecycleOpen, retirementClosed};
+ghost use Rattle.records.specs.Words.{_≡_, not, [], _∷_, eqb, put, asking, ok, bytes, Built, Decoded, Encoded, sound};
+ghost use Rattle.records.specs.Current.{current, openControl, retiredControl, currentListed, tokenFits, cookieFits, currentControl, currentCodec, lifecycleOpen, retirementClosed};
 
 pub struct CurrentFenceToken {
     pub durable_fence_token: DurableFenceToken,
@@ -15,30 +15,88 @@ pub struct CurrentAnswer {
     pub value: CurrentFenceToken,
 }
 
-fn rule(zeros: u32, control: u32, token: u64, cookie: u64) -> bool
-    ensures { λ r. ⌜ r ≡ currentRule zeros control token cookie ⌝ }
+// Whether the control is one of the two words, or all is zero.
+fn is_listed(control: u32, token: DurableFenceToken, cookie: SocketCookie) -> bool
+    ensures { λ r. ⌜ r ≡ currentListed control (token .0) (cookie .0) ⌝ }
 {
-    if zeros != 0 {
-        return false;
+    if control == 0 {
+        return (token.0 == 0) & (cookie.0 == 0);
     }
-    match control {
-        0 => token == 0 && cookie == 0,
-        0x4f45_0201 => token % 2 != 0,
-        0x4f45_0202 => token % 2 == 0 && (token != 0 && cookie == 0),
-        _ => false,
-    }
+    (control == CurrentFenceToken::LIFECYCLE_OPEN_CONTROL)
+        | (control == CurrentFenceToken::RETIREMENT_CLOSED_CONTROL)
 }
 
-fn answer(number: u32, token: u64, cookie: u64, retirement_closed: bool) -> CurrentAnswer
-    ensures { λ r. ⌜ (r .number ≡ number) × (r .value ≡ current token cookie «retirement_closed») ⌝ }
+// What the control asks of the token.
+fn token_fits(control: u32, token: DurableFenceToken) -> bool
+    ensures { λ r. ⌜ r ≡ tokenFits control (token .0) ⌝ }
+{
+    let number = token.0;
+    if control == CurrentFenceToken::LIFECYCLE_OPEN_CONTROL {
+        return number % 2 != 0;
+    }
+    if control == CurrentFenceToken::RETIREMENT_CLOSED_CONTROL {
+        return (number % 2 == 0) & (number != 0);
+    }
+    true
+}
+
+// What the control asks of the cookie.
+fn cookie_fits(control: u32, cookie: SocketCookie) -> bool
+    ensures { λ r. ⌜ r ≡ cookieFits control (cookie .0) ⌝ }
+{
+    if control == CurrentFenceToken::RETIREMENT_CLOSED_CONTROL {
+        return cookie.0 == 0;
+    }
+    true
+}
+
+fn rule(zeros: u32, control: u32, token: DurableFenceToken, cookie: SocketCookie) -> bool
+    ensures { λ r. ⌜ r ≡ ok currentCodec (zeros ∷ control ∷ token .0 ∷ cookie .0 ∷ []) ⌝ }
+{
+    (zeros == 0)
+        & (is_listed(control, token, cookie)
+            & (token_fits(control, token) & cookie_fits(control, cookie)))
+}
+
+fn answer(
+    number: u32,
+    durable_fence_token: DurableFenceToken,
+    registered_socket_cookie: SocketCookie,
+    retirement_closed: bool,
+) -> CurrentAnswer
+    ensures { λ r. ⌜ (r .number ≡ number) × (r .value ≡ current («durable_fence_token» .0) («registered_socket_cookie» .0) «retirement_closed») ⌝ }
 {
     CurrentAnswer {
         number,
         value: CurrentFenceToken {
-            durable_fence_token: DurableFenceToken(token),
-            registered_socket_cookie: SocketCookie(cookie),
+            durable_fence_token,
+            registered_socket_cookie,
             retirement_closed,
         },
+    }
+}
+
+// A refusal.
+fn refused(number: u32) -> CurrentAnswer
+    ensures { λ r. ⌜ (r .number ≡ number) × (r .value ≡ currentCodec .blank) ⌝ }
+{
+    answer(number, DurableFenceToken(0), SocketCookie(0), false)
+}
+
+// What the four numbers of the layout give.
+fn from_fields(
+    zeros: u32,
+    control: u32,
+    token: DurableFenceToken,
+    cookie: SocketCookie,
+) -> CurrentAnswer
+    ensures { λ r. ⌜ Built currentCodec (zeros ∷ control ∷ token .0 ∷ cookie .0 ∷ []) (r .number) (r .value) ⌝ }
+{
+    if rule(zeros, control, token, cookie) {
+        let retired = control == CurrentFenceToken::RETIREMENT_CLOSED_CONTROL;
+        answer(0, token, cookie, retired)
+    } else {
+        refused(2)
     }
 }
 
@@ -49,34 +107,17 @@ impl CurrentFenceToken {
 
     pub const RETIREMENT_CLOSED_CONTROL: u32 = 0x4f45_0202;
 
-    // What the four numbers of the layout give, for whatever reads them.
-    pub fn from_fields(
-        zeros: u32,
-        control: u32,
-        token: DurableFenceToken,
-        cookie: SocketCookie,
-    ) -> CurrentAnswer
-        ensures { λ r. ⌜ Built currentCodec (zeros ∷ control ∷ token .0 ∷ cookie .0 ∷ []) (r .number) (r .value) ⌝ }
-    {
-        if rule(zeros, control, token.0, cookie.0) {
-            let closed = control == CurrentFenceToken::RETIREMENT_CLOSED_CONTROL;
-            answer(0, token.0, cookie.0, closed)
-        } else {
-            answer(2, 0, 0, false)
-        }
-    }
-
     // Before the first token is published.
     pub fn initial() -> CurrentAnswer
         ensures { λ r. ⌜ Built currentCodec (0 ∷ 0 ∷ 0 ∷ 0 ∷ []) (r .number) (r .value) ⌝ }
     {
-        CurrentFenceToken::from_fields(0, 0, DurableFenceToken(0), SocketCookie(0))
+        from_fields(0, 0, DurableFenceToken(0), SocketCookie(0))
     }
 
     pub fn lifecycle_open(durable_fence_token: DurableFenceToken) -> CurrentAnswer
-        ensures { λ r. ⌜ Built currentCodec (0 ∷ 0x4f45_0201 ∷ «durable_fence_token» .0 ∷ 0 ∷ []) (r .number) (r .value) ⌝ }
+        ensures { λ r. ⌜ Built currentCodec (0 ∷ openControl ∷ «durable_fence_token» .0 ∷ 0 ∷ []) (r .number) (r .value) ⌝ }
     {
-        CurrentFenceToken::from_fields(
+        from_fields(
             0,
             CurrentFenceToken::LIFECYCLE_OPEN_CONTROL,
             durable_fence_token,
@@ -85,9 +126,9 @@ impl CurrentFenceToken {
     }
 
     pub fn retirement_closed(durable_fence_token: DurableFenceToken) -> CurrentAnswer
-        ensures { λ r. ⌜ Built currentCodec (0 ∷ 0x4f45_0202 ∷ «durable_fence_token» .0 ∷ 0 ∷ []) (r .number) (r .value) ⌝ }
+        ensures { λ r. ⌜ Built currentCodec (0 ∷ retiredControl ∷ «durable_fence_token» .0 ∷ 0 ∷ []) (r .number) (r .value) ⌝ }
     {
-        CurrentFenceToken::from_fields(
+        from_fields(
             0,
             CurrentFenceToken::RETIREMENT_CLOSED_CONTROL,
             durable_fence_token,
@@ -101,12 +142,12 @@ impl CurrentFenceToken {
         registered_socket_cookie: SocketCookie,
     ) -> CurrentAnswer
         ensures { λ r. ⌜ Built (asking (not (eqb («registered_socket_cookie» .0) 0)) currentCodec)
-            (0 ∷ 0x4f45_0201 ∷ «durable_fence_token» .0 ∷ «registered_socket_cookie» .0 ∷ []) (r .number) (r .value) ⌝ }
+            (0 ∷ openControl ∷ «durable_fence_token» .0 ∷ «registered_socket_cookie» .0 ∷ []) (r .number) (r .value) ⌝ }
     {
         if registered_socket_cookie.0 == 0 {
-            return answer(2, 0, 0, false);
+            return refused(2);
         }
-        CurrentFenceToken::from_fields(
+        from_fields(
             0,
             CurrentFenceToken::LIFECYCLE_OPEN_CONTROL,
             durable_fence_token,
@@ -157,37 +198,42 @@ impl CurrentFenceToken {
     pub fn is_sound(self) -> bool
         ensures { λ r. ⌜ r ≡ sound currentCodec self ⌝ }
     {
-        rule(
-            0,
-            self.control(),
-            self.durable_fence_token.0,
-            self.registered_socket_cookie.0,
-        )
+        let token = self.durable_fence_token;
+        let cookie = self.registered_socket_cookie;
+        rule(0, self.control(), token, cookie)
     }
 
     pub fn decode(s: &[u8]) -> CurrentAnswer
         ensures { λ r. ⌜ Decoded currentCodec (now (s .entry)) (r .number) (r .value) ⌝ }
     {
         if s.len() != CurrentFenceToken::LEN {
-            return answer(1, 0, 0, false);
+            return refused(1);
         }
         let zeros = octets::get_u32_le(s, 0);
         let control = octets::get_u32_le(s, 4);
         let token = DurableFenceToken(octets::get_u64_le(s, 8));
         let cookie = SocketCookie(octets::get_u64_le(s, 16));
-        CurrentFenceToken::from_fields(zeros, control, token, cookie)
+        from_fields(zeros, control, token, cookie)
     }
 
     pub fn encode(self, out: &mut [u8]) -> u32
         ensures { λ r. ⌜ Encoded currentCodec self (now (out .entry)) r (now (out .exit)) ⌝ }
     {
-        let number = octets::encode_number(self.is_sound(), CurrentFenceToken::LEN, out.len());
+        let number = codec::encode_number(self.is_sound(), CurrentFenceToken::LEN, out.len());
         if number == 0 {
-            octets::put_u32_le(out, 0, 0);
-            octets::put_u32_le(out, 4, self.control());
-            octets::put_u64_le(out, 8, self.durable_fence_token.0);
-            octets::put_u64_le(out, 16, self.registered_socket_cookie.0);
+            self.write(out);
         }
         number
+    }
+
+    // The record's fields, put at the start of a slice, for whatever holds the record as a part; octets past the end are dropped. It
+    // does not ask whether the record is sound.
+    pub fn write(self, out: &mut [u8])
+        ensures { λ r. ⌜ now (out .exit) ≡ put (now (out .entry)) 0 (bytes currentCodec self) ⌝ }
+    {
+        octets::put_u32_le(out, 0, 0);
+        octets::put_u32_le(out, 4, self.control());
+        octets::put_u64_le(out, 8, self.durable_fence_token.0);
+        octets::put_u64_le(out, 16, self.registered_socket_cookie.0);
     }
 }

@@ -2,8 +2,9 @@
 use units::BootNs;
 use units::ControlEpoch;
 use units::DurableFenceToken;
-ghost use Rattle.records.specs.Words.{_≡_, [], _∷_, Built, Decoded, Encoded, sound};
-ghost use Rattle.records.specs.Entry.{controlOf, stateFrom, deadlineRule, stateRule, entryRule, entry, entryCodec, closed, terminal, reclaiming};
+ghost use Rattle.records.specs.Words.{_≡_, _&&_, [], _∷_, put, ok, bytes, Built, Decoded, Encoded, sound};
+ghost use Rattle.records.specs.Entry.{controlOf, stateFrom, stateListed, oddToken, deadlineFits, epochFits, entry, entryCodec, closed, terminal, reclaiming};
+ghost use Rattle.records.specs.declared.entry.FenceEntryState.the-variants.{InitialClosed, Active, TerminalClosed, Reclaiming};
 
 pub enum FenceEntryState {
     // Registered, and not yet opened.
@@ -28,68 +29,130 @@ pub struct EntryAnswer {
     pub value: FenceEntry,
 }
 
-// What a control asks of deadline and epoch.
-fn deadline_rule(control: u32, deadline: u64, epoch: u64) -> bool
-    ensures { λ r. ⌜ r ≡ deadlineRule control deadline epoch ⌝ }
+// Whether a control word is one of the four.
+pub(crate) fn is_listed(control: u32) -> bool
+    ensures { λ r. ⌜ r ≡ stateListed control ⌝ }
 {
-    match control {
-        0x4f45_0101 => deadline == 0 && epoch == 1,
-        0x4f45_0102 => deadline != 0,
-        0x4f45_0103 => deadline == 0,
-        0x4f45_01ff => deadline == 0,
-        _ => false,
+    (control == FenceEntryState::INITIAL_CLOSED)
+        | ((control == FenceEntryState::ACTIVE)
+            | ((control == FenceEntryState::TERMINAL_CLOSED)
+                | (control == FenceEntryState::RECLAIMING)))
+}
+
+// What the control asks of the deadline.
+fn deadline_fits(control: u32, deadline: BootNs) -> bool
+    ensures { λ r. ⌜ r ≡ deadlineFits control (deadline .0) ⌝ }
+{
+    if control == FenceEntryState::ACTIVE {
+        return deadline.0 != 0;
     }
+    deadline.0 == 0
 }
 
-// The rule that an entry and a cookie value share.
-pub(crate) fn state_rule(control: u32, token: u64, deadline: u64, epoch: u64) -> bool
-    ensures { λ r. ⌜ r ≡ stateRule control token deadline epoch ⌝ }
+// What the control asks of the epoch.
+fn epoch_fits(control: u32, epoch: ControlEpoch) -> bool
+    ensures { λ r. ⌜ r ≡ epochFits control (epoch .0) ⌝ }
 {
-    token % 2 != 0 && (epoch != 0 && deadline_rule(control, deadline, epoch))
+    if control == FenceEntryState::INITIAL_CLOSED {
+        return epoch.0 == FenceEntry::INITIAL_EPOCH;
+    }
+    epoch.0 != 0
 }
 
-fn rule(zeros: u32, control: u32, token: u64, deadline: u64, epoch: u64) -> bool
-    ensures { λ r. ⌜ r ≡ entryRule zeros control token deadline epoch ⌝ }
+// The tests from the token on, which an entry and a cookie value share.
+pub(crate) fn state_fits(
+    control: u32,
+    token: DurableFenceToken,
+    deadline: BootNs,
+    epoch: ControlEpoch,
+) -> bool
+    ensures { λ r. ⌜ r ≡ (oddToken (token .0) && (deadlineFits control (deadline .0) && epochFits control (epoch .0))) ⌝ }
 {
-    zeros == 0 && state_rule(control, token, deadline, epoch)
+    (token.0 % 2 != 0) & (deadline_fits(control, deadline) & epoch_fits(control, epoch))
 }
 
-fn answer(number: u32, state: FenceEntryState, token: u64, deadline: u64, epoch: u64) -> EntryAnswer
-    ensures { λ r. ⌜ (r .number ≡ number) × (r .value ≡ entry state token deadline epoch) ⌝ }
+fn rule(
+    zeros: u32,
+    control: u32,
+    token: DurableFenceToken,
+    deadline: BootNs,
+    epoch: ControlEpoch,
+) -> bool
+    ensures { λ r. ⌜ r ≡ ok entryCodec (zeros ∷ control ∷ token .0 ∷ deadline .0 ∷ epoch .0 ∷ []) ⌝ }
+{
+    (zeros == 0) & (is_listed(control) & state_fits(control, token, deadline, epoch))
+}
+
+fn answer(
+    number: u32,
+    state: FenceEntryState,
+    durable_fence_token: DurableFenceToken,
+    deadline_boot_ns: BootNs,
+    control_epoch: ControlEpoch,
+) -> EntryAnswer
+    ensures { λ r. ⌜ (r .number ≡ number) × (r .value ≡ entry state («durable_fence_token» .0) («deadline_boot_ns» .0) («control_epoch» .0)) ⌝ }
 {
     EntryAnswer {
         number,
         value: FenceEntry {
             state,
-            durable_fence_token: DurableFenceToken(token),
-            deadline_boot_ns: BootNs(deadline),
-            control_epoch: ControlEpoch(epoch),
+            durable_fence_token,
+            deadline_boot_ns,
+            control_epoch,
         },
     }
 }
 
+// A refusal.
+fn refused(number: u32) -> EntryAnswer
+    ensures { λ r. ⌜ (r .number ≡ number) × (r .value ≡ entryCodec .blank) ⌝ }
+{
+    answer(
+        number,
+        FenceEntryState::InitialClosed,
+        DurableFenceToken(0),
+        BootNs(0),
+        ControlEpoch(0),
+    )
+}
+
 // What the five numbers of the layout give.
-fn from_fields(zeros: u32, control: u32, token: u64, deadline: u64, epoch: u64) -> EntryAnswer
-    ensures { λ r. ⌜ Built entryCodec (zeros ∷ control ∷ token ∷ deadline ∷ epoch ∷ []) (r .number) (r .value) ⌝ }
+fn from_fields(
+    zeros: u32,
+    control: u32,
+    token: DurableFenceToken,
+    deadline: BootNs,
+    epoch: ControlEpoch,
+) -> EntryAnswer
+    ensures { λ r. ⌜ Built entryCodec (zeros ∷ control ∷ token .0 ∷ deadline .0 ∷ epoch .0 ∷ []) (r .number) (r .value) ⌝ }
 {
     if rule(zeros, control, token, deadline, epoch) {
         let state = FenceEntryState::from_control(control);
         answer(0, state, token, deadline, epoch)
     } else {
-        answer(2, FenceEntryState::InitialClosed, 0, 0, 0)
+        refused(2)
     }
 }
 
 impl FenceEntryState {
+    // The control words, one for each state.
+    pub const INITIAL_CLOSED: u32 = 0x4f45_0101;
+
+    pub const ACTIVE: u32 = 0x4f45_0102;
+
+    pub const TERMINAL_CLOSED: u32 = 0x4f45_0103;
+
+    pub const RECLAIMING: u32 = 0x4f45_01ff;
+
     // The word that stands for the state in a record.
     pub fn control(self) -> u32
         ensures { λ r. ⌜ r ≡ controlOf self ⌝ }
     {
         match self {
-            FenceEntryState::InitialClosed => 0x4f45_0101,
-            FenceEntryState::Active => 0x4f45_0102,
-            FenceEntryState::TerminalClosed => 0x4f45_0103,
-            FenceEntryState::Reclaiming => 0x4f45_01ff,
+            FenceEntryState::InitialClosed => FenceEntryState::INITIAL_CLOSED,
+            FenceEntryState::Active => FenceEntryState::ACTIVE,
+            FenceEntryState::TerminalClosed => FenceEntryState::TERMINAL_CLOSED,
+            FenceEntryState::Reclaiming => FenceEntryState::RECLAIMING,
         }
     }
 
@@ -97,12 +160,16 @@ impl FenceEntryState {
     pub(crate) fn from_control(control: u32) -> FenceEntryState
         ensures { λ r. ⌜ r ≡ stateFrom control ⌝ }
     {
-        match control {
-            0x4f45_0102 => FenceEntryState::Active,
-            0x4f45_0103 => FenceEntryState::TerminalClosed,
-            0x4f45_01ff => FenceEntryState::Reclaiming,
-            _ => FenceEntryState::InitialClosed,
+        if control == FenceEntryState::ACTIVE {
+            return FenceEntryState::Active;
         }
+        if control == FenceEntryState::TERMINAL_CLOSED {
+            return FenceEntryState::TerminalClosed;
+        }
+        if control == FenceEntryState::RECLAIMING {
+            return FenceEntryState::Reclaiming;
+        }
+        FenceEntryState::InitialClosed
     }
 }
 
@@ -113,14 +180,14 @@ impl FenceEntry {
     pub const INITIAL_EPOCH: u64 = 1;
 
     pub fn initial_closed(durable_fence_token: DurableFenceToken) -> EntryAnswer
-        ensures { λ r. ⌜ Built entryCodec (0 ∷ 0x4f45_0101 ∷ «durable_fence_token» .0 ∷ 0 ∷ 1 ∷ []) (r .number) (r .value) ⌝ }
+        ensures { λ r. ⌜ Built entryCodec (0 ∷ controlOf InitialClosed ∷ «durable_fence_token» .0 ∷ 0 ∷ 1 ∷ []) (r .number) (r .value) ⌝ }
     {
         from_fields(
             0,
-            0x4f45_0101,
-            durable_fence_token.0,
-            0,
-            FenceEntry::INITIAL_EPOCH,
+            FenceEntryState::INITIAL_CLOSED,
+            durable_fence_token,
+            BootNs(0),
+            ControlEpoch(FenceEntry::INITIAL_EPOCH),
         )
     }
 
@@ -129,14 +196,14 @@ impl FenceEntry {
         deadline_boot_ns: BootNs,
         control_epoch: ControlEpoch,
     ) -> EntryAnswer
-        ensures { λ r. ⌜ Built entryCodec (0 ∷ 0x4f45_0102 ∷ «durable_fence_token» .0 ∷ «deadline_boot_ns» .0 ∷ «control_epoch» .0 ∷ []) (r .number) (r .value) ⌝ }
+        ensures { λ r. ⌜ Built entryCodec (0 ∷ controlOf Active ∷ «durable_fence_token» .0 ∷ «deadline_boot_ns» .0 ∷ «control_epoch» .0 ∷ []) (r .number) (r .value) ⌝ }
     {
         from_fields(
             0,
-            0x4f45_0102,
-            durable_fence_token.0,
-            deadline_boot_ns.0,
-            control_epoch.0,
+            FenceEntryState::ACTIVE,
+            durable_fence_token,
+            deadline_boot_ns,
+            control_epoch,
         )
     }
 
@@ -144,18 +211,30 @@ impl FenceEntry {
         durable_fence_token: DurableFenceToken,
         control_epoch: ControlEpoch,
     ) -> EntryAnswer
-        ensures { λ r. ⌜ Built entryCodec (0 ∷ 0x4f45_0103 ∷ «durable_fence_token» .0 ∷ 0 ∷ «control_epoch» .0 ∷ []) (r .number) (r .value) ⌝ }
+        ensures { λ r. ⌜ Built entryCodec (0 ∷ controlOf TerminalClosed ∷ «durable_fence_token» .0 ∷ 0 ∷ «control_epoch» .0 ∷ []) (r .number) (r .value) ⌝ }
     {
-        from_fields(0, 0x4f45_0103, durable_fence_token.0, 0, control_epoch.0)
+        from_fields(
+            0,
+            FenceEntryState::TERMINAL_CLOSED,
+            durable_fence_token,
+            BootNs(0),
+            control_epoch,
+        )
     }
 
     pub fn reclaiming(
         durable_fence_token: DurableFenceToken,
         control_epoch: ControlEpoch,
     ) -> EntryAnswer
-        ensures { λ r. ⌜ Built entryCodec (0 ∷ 0x4f45_01ff ∷ «durable_fence_token» .0 ∷ 0 ∷ «control_epoch» .0 ∷ []) (r .number) (r .value) ⌝ }
+        ensures { λ r. ⌜ Built entryCodec (0 ∷ controlOf Reclaiming ∷ «durable_fence_token» .0 ∷ 0 ∷ «control_epoch» .0 ∷ []) (r .number) (r .value) ⌝ }
     {
-        from_fields(0, 0x4f45_01ff, durable_fence_token.0, 0, control_epoch.0)
+        from_fields(
+            0,
+            FenceEntryState::RECLAIMING,
+            durable_fence_token,
+            BootNs(0),
+            control_epoch,
+        )
     }
 
     pub fn state(self) -> FenceEntryState
@@ -222,41 +301,45 @@ impl FenceEntry {
         ensures { λ r. ⌜ r ≡ sound entryCodec self ⌝ }
     {
         let state = self.state;
-        rule(
-            0,
-            state.control(),
-            self.durable_fence_token.0,
-            self.deadline_boot_ns.0,
-            self.control_epoch.0,
-        )
+        let token = self.durable_fence_token;
+        let deadline = self.deadline_boot_ns;
+        let epoch = self.control_epoch;
+        rule(0, state.control(), token, deadline, epoch)
     }
 
     pub fn decode(s: &[u8]) -> EntryAnswer
         ensures { λ r. ⌜ Decoded entryCodec (now (s .entry)) (r .number) (r .value) ⌝ }
     {
         if s.len() != FenceEntry::LEN {
-            return answer(1, FenceEntryState::InitialClosed, 0, 0, 0);
+            return refused(1);
         }
         let zeros = octets::get_u32_le(s, 0);
         let control = octets::get_u32_le(s, 4);
-        let token = octets::get_u64_le(s, 8);
-        let deadline = octets::get_u64_le(s, 16);
-        let epoch = octets::get_u64_le(s, 24);
+        let token = DurableFenceToken(octets::get_u64_le(s, 8));
+        let deadline = BootNs(octets::get_u64_le(s, 16));
+        let epoch = ControlEpoch(octets::get_u64_le(s, 24));
         from_fields(zeros, control, token, deadline, epoch)
     }
 
     pub fn encode(self, out: &mut [u8]) -> u32
         ensures { λ r. ⌜ Encoded entryCodec self (now (out .entry)) r (now (out .exit)) ⌝ }
     {
-        let number = octets::encode_number(self.is_sound(), FenceEntry::LEN, out.len());
+        let number = codec::encode_number(self.is_sound(), FenceEntry::LEN, out.len());
         if number == 0 {
-            let state = self.state;
-            octets::put_u32_le(out, 0, 0);
-            octets::put_u32_le(out, 4, state.control());
-            octets::put_u64_le(out, 8, self.durable_fence_token.0);
-            octets::put_u64_le(out, 16, self.deadline_boot_ns.0);
-            octets::put_u64_le(out, 24, self.control_epoch.0);
+            self.write(out);
         }
         number
+    }
+
+    // The record's fields, put at the start.
+    fn write(self, out: &mut [u8])
+        ensures { λ r. ⌜ now (out .exit) ≡ put (now (out .entry)) 0 (bytes entryCodec self) ⌝ }
+    {
+        let state = self.state;
+        octets::put_u32_le(out, 0, 0);
+        octets::put_u32_le(out, 4, state.control());
+        octets::put_u64_le(out, 8, self.durable_fence_token.0);
+        octets::put_u64_le(out, 16, self.deadline_boot_ns.0);
+        octets::put_u64_le(out, 24, self.control_epoch.0);
     }
 }

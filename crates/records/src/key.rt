@@ -1,7 +1,7 @@
 // The key of a cookie value, 16 bytes: one registered socket's lifecycle.
 use units::DurableFenceToken;
 use units::SocketCookie;
-ghost use Rattle.records.specs.Words.{_≡_, [], _∷_, Built, Decoded, Encoded, sound};
+ghost use Rattle.records.specs.Words.{_≡_, [], _∷_, put, bytes, Built, Decoded, Encoded, sound};
 ghost use Rattle.records.specs.Key.{keyCodec};
 
 pub struct FenceCookieKey {
@@ -69,11 +69,18 @@ impl FenceCookieKey {
     pub fn encode(self, out: &mut [u8]) -> u32
         ensures { λ r. ⌜ Encoded keyCodec self (now (out .entry)) r (now (out .exit)) ⌝ }
     {
-        let number = octets::encode_number(self.is_sound(), FenceCookieKey::LEN, out.len());
+        let number = codec::encode_number(self.is_sound(), FenceCookieKey::LEN, out.len());
         if number == 0 {
-            octets::put_u64_le(out, 0, self.socket_cookie.0);
-            octets::put_u64_le(out, 8, self.durable_fence_token.0);
+            self.write(out);
         }
         number
+    }
+
+    // The record's fields, put at the start.
+    fn write(self, out: &mut [u8])
+        ensures { λ r. ⌜ now (out .exit) ≡ put (now (out .entry)) 0 (bytes keyCodec self) ⌝ }
+    {
+        octets::put_u64_le(out, 0, self.socket_cookie.0);
+        octets::put_u64_le(out, 8, self.durable_fence_token.0);
     }
 }

@@ -1,5 +1,5 @@
 // The mutation authority, 16 bytes: the last completed generation, and the claim in flight.
-ghost use Rattle.records.specs.Words.{_≡_, [], _∷_, Built, Decoded, Encoded, sound};
+ghost use Rattle.records.specs.Words.{_≡_, [], _∷_, put, bytes, Built, Decoded, Encoded, sound};
 ghost use Rattle.records.specs.Mutation.{mutationCodec};
 
 pub struct FenceMutationAuthority {
@@ -77,11 +77,19 @@ impl FenceMutationAuthority {
     pub fn encode(self, out: &mut [u8]) -> u32
         ensures { λ r. ⌜ Encoded mutationCodec self (now (out .entry)) r (now (out .exit)) ⌝ }
     {
-        let number = octets::encode_number(self.is_sound(), FenceMutationAuthority::LEN, out.len());
+        let number = codec::encode_number(self.is_sound(), FenceMutationAuthority::LEN, out.len());
         if number == 0 {
-            octets::put_u64_le(out, 0, self.generation);
-            octets::put_u64_le(out, 8, self.in_flight_claim);
+            self.write(out);
         }
         number
+    }
+
+    // The record's fields, put at the start of a slice, for whatever holds the record as a part; octets past the end are dropped. It
+    // does not ask whether the record is sound.
+    pub fn write(self, out: &mut [u8])
+        ensures { λ r. ⌜ now (out .exit) ≡ put (now (out .entry)) 0 (bytes mutationCodec self) ⌝ }
+    {
+        octets::put_u64_le(out, 0, self.generation);
+        octets::put_u64_le(out, 8, self.in_flight_claim);
     }
 }

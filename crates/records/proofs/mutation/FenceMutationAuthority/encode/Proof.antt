@@ -1,9 +1,0 @@
--- `encode`: its answers are those of every encoder; its stores are one for each field, in the order of the layout. Assumes nothing.
-use Rattle.octets.proofs.CodecLaws.{refl, free, needs, encode-refused, encode-written}
-use Rattle.records.proofs.mutation.FenceMutationAuthority.encode as the
-
-pub encode-spec : {M : Type 1} → the.Statement.statement M
-encode-spec = the.Tie.close (the.Tie.spec free free free free (λ c. search needs) (λ c.
-    let p2 = c .before .before in let p1 = p2 .before .before .before .before in let tested = p1 .before .before in let n = tested .before in
-    encode-written (n .before .is-sound .ensures) (n .encode-number .ensures) (tested .if1 .taken) refl (rw (p2 .put-u64-le2 .ensures, p1 .put-u64-le .ensures)))
-    (λ c. encode-refused (c .before .before .is-sound .ensures) (c .before .encode-number .ensures) (c .if1 .left)))
