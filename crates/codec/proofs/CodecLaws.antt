@@ -8,8 +8,8 @@ use Rattle.octets.proofs.Tools.{sym, ap, _∙_, true≢false, arith, eq-eqb, ne
 use lib.ListN.{length-append, length-drop}
 use lib.Seq.{take-at}
 use native.Mathlib.Nat.{zero-add}
-use Rattle.octets.specs.Octets.{Bytes, put}
-use Rattle.octets.proofs.OctetsLaws.{put-in}
+use Rattle.octets.specs.Octets.{Bytes, octetsAt, put}
+use Rattle.octets.proofs.OctetsLaws.{put-in, octets-whole}
 use Rattle.codec.specs.Layout.{Field, size, fieldsAt, laid, Fit}
 use Rattle.codec.specs.Inner.Stores.{puts}
 use Rattle.codec.specs.Codec.{Codec, asking, faultAt, isClean, firstFault, faultOf, ok, fieldsNumber, fieldsValue, decodeNumber, decodeValue, sound, bytes, roomAnswer, unsoundNumber, written, encodeNumber, Built, Made, Decoded, Encoded}
@@ -27,6 +27,10 @@ pub record Lawful {R : Type 0} (C : Codec R) (Formed : R → Type 0) : Type 0 wh
   pub fits : (v : R) → Formed v → Fit (C .layout) (C .fields v)
   -- there is a number for each field
   pub counted : (v : R) → length (C .fields v) ≡ length (C .layout)
+
+-- numbers that fit are the list of them, so it is enough to know each
+pub listed : {R : Type 0} (C : Codec R) (vs : List ℕ) → Fit (C .layout) vs → octetsAt vs 0 (length (C .layout)) ≡ vs
+listed C vs f = octets-whole vs (length (C .layout)) (fit-length (C .layout) vs f)
 
 -- ---- of two tests
 

@@ -7,8 +7,8 @@ use Rattle.octets.proofs.Tools.{refl, sym, ap, _∙_, arith, eq-eqb, eq
 use mathlib.Core.Path.{subst}
 use native.Mathlib.Nat.{add-zero, zero-add, suc-add, add-suc, add-assoc, add-comm, mul-assoc, mul-comm, mul-add, div-div-eq-div-mul, pow-zero, pow-suc, pow-succ', div-one, one-mul, div-lt-iff-lt-mul, lt-of-lt-of-le}
 use native.Mathlib.Numerals.{add-one}
-use mathlib.Core.List.{append-assoc, reverse-append, reverse-cons, reverse-reverse}
-use lib.ListN.{length-append, length-reverse, length-set, length-drop, List·getD-eq-default}
+use mathlib.Core.List.{append-assoc, append-nil, reverse-append, reverse-cons, reverse-reverse}
+use lib.ListN.{drop-of-length-le, length-append, length-reverse, length-set, length-drop, List·getD-eq-default}
 use lib.Arith.{mod-mul, digits-div, digits-mod}
 use lib.Dec.{lit<}
 use lib.Seq.{set-out, drop-cons, drop-drop, getD-take, getD-drop, sets, sets-eq, append-snoc, getD-append-seam}
@@ -264,6 +264,10 @@ octets-part s k m i (suc n) h =
     let here : getD (take m (drop k s)) i 0 ≡ getD s (k + i) 0 = rw (getD-take, getD-drop) in
     let next : k + (i + 1) ≡ k + i + 1 = omega arith in
     rw (here, octets-part s k m (i + 1) n (omega arith), next)
+
+-- all octets of a list are the list
+pub octets-whole : (s : List ℕ) (n : ℕ) → length s ≡ n → octetsAt s 0 n ≡ s
+octets-whole s n e = rw (drop-of-length-le s {i = 0 + n} (omega arith), append-nil) at (octets-drop s 0 n (omega arith))
 
 -- octets put into the part from the place k on stand in the whole from there on
 pub put-part : (d : List ℕ) (k : ℕ) (bs : List ℕ) → k + length bs ≤ length d → take k d ++ put (drop k d) 0 bs ≡ put d k bs

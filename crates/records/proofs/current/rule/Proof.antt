@@ -1,0 +1,10 @@
+-- `rule`: the tests are the definition's, in its order. Assumes nothing.
+use Rattle.octets.proofs.Tools.{free}
+use Rattle.codec.proofs.TestLaws.{and-true}
+use Rattle.records.proofs.current.rule as the
+
+returns : the.Tie.Need-returns
+returns c = rw (and-true, c .cookie-fits .ensures, c .before .token-fits .ensures, c .before .before .is-listed .ensures)
+
+pub rule-spec : {M : Type 1} → the.Statement.statement M
+rule-spec = the.Tie.close (the.Tie.spec free free free returns)
