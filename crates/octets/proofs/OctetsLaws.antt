@@ -3,7 +3,7 @@
 -- is none. Each goes by induction on the octets; the order with the most significant octet first is the other one reversed.
 -- Assumes nothing.
 use Rattle.octets.specs.Words.{ℕ, zero, suc, _+_, _-_, _*_, _/_, _%_, _^_, _<_, _≤_, _≡_, Bool, true, false, _&&_, List, [], _∷_, _++_, reverse, length, getD, take, drop, set, eqb}
-use Rattle.octets.proofs.Tools.{refl, sym, ap, _∙_, arith, eq-eqb, eqb-true}
+use Rattle.octets.proofs.Tools.{refl, sym, ap, _∙_, arith, eq-eqb, ne-eqb, eqb-true, eqb-false}
 use mathlib.Core.Path.{subst}
 use native.Mathlib.Nat.{add-zero, zero-add, suc-add, add-suc, add-assoc, add-comm, mul-assoc, mul-comm, mul-add, div-div-eq-div-mul, pow-zero, pow-suc, pow-succ', div-one, one-mul, div-lt-iff-lt-mul, lt-of-lt-of-le}
 use native.Mathlib.Numerals.{add-one}
@@ -212,6 +212,18 @@ beBytes-be s h =
 
 -- ---- parts that are zero, and parts that are equal
 
+and-assoc : (a b c : Bool) → (a && (b && c)) ≡ ((a && b) && c)
+and-assoc true b c = refl
+and-assoc false b c = refl
+
+digit-zero : (b n : ℕ) → eqb (b + 256 * n) 0 ≡ (eqb b 0 && eqb n 0)
+digit-zero b n = go (eqb b 0) (eqb n 0) refl refl
+  where
+    go : (x y : Bool) → eqb b 0 ≡ x → eqb n 0 ≡ y → eqb (b + 256 * n) 0 ≡ (x && y)
+    go true true e f = eq-eqb (b + 256 * n) 0 (omega (arith, eqb-true b 0 e, eqb-true n 0 f))
+    go true false e f = ne-eqb (b + 256 * n) 0 (λ d. eqb-false n 0 f (omega arith))
+    go false y e f = ne-eqb (b + 256 * n) 0 (λ d. eqb-false b 0 e (omega arith))
+
 -- the first octet of some
 pub octets-first : (s : List ℕ) (at n : ℕ) → (n ≡ 0 → ⊥) → octetsAt s at n ≡ getD s at 0 ∷ octetsAt s (at + 1) (n - 1)
 unfolding octetsAt
@@ -234,6 +246,26 @@ pub zero-past : (s : List ℕ) (at n : ℕ) → length s ≤ at → allZero (oct
 unfolding octetsAt allZero
 zero-past s at zero h = refl
 zero-past s at (suc n) h = simp (List·getD-eq-default s 0 h, zero-past s (at + 1) n (omega arith))
+
+-- n + m octets are zero where the first n are and the other m
+pub zero-parts : (s : List ℕ) (at n m : ℕ) → allZero (octetsAt s at (n + m)) ≡ (allZero (octetsAt s at n) && allZero (octetsAt s (at + n) m))
+unfolding octetsAt allZero
+zero-parts s at zero m = rw (zero-add, add-zero at)
+zero-parts s at (suc n) m =
+    let e : at + 1 + n ≡ at + suc n = omega arith in
+    rw (suc-add, zero-parts s (at + 1) n m, e) (and-assoc (eqb (getD s at 0) 0) _ _)
+
+-- and octets are zero where the number that they spell is
+pub zero-number : (s : List ℕ) → eqb (le s) 0 ≡ allZero s
+unfolding le allZero
+zero-number [] = refl
+zero-number (b ∷ s) = digit-zero b (le s) ∙ ap (λ r. eqb b 0 && r) (zero-number s)
+
+-- so of eight octets or more the first eight are asked by their number, and then the rest
+pub zero-eight : (s : List ℕ) (at n : ℕ) → 8 ≤ n → allZero (octetsAt s at n) ≡ (eqb (le (octetsAt s at 8)) 0 && allZero (octetsAt s (at + 8) (n - 8)))
+zero-eight s at n h =
+    let e : n ≡ 8 + (n - 8) = omega arith in
+    ap (λ (k : ℕ). allZero (octetsAt s at k)) e ∙ zero-parts s at 8 (n - 8) ∙ ap (λ r. r && allZero (octetsAt s (at + 8) (n - 8))) (sym (zero-number (octetsAt s at 8)))
 
 eqb-sym : (a b : ℕ) (p q : Bool) → eqb a b ≡ p → eqb b a ≡ q → p ≡ q
 eqb-sym a b true true e f = refl

@@ -5,24 +5,6 @@ use Rattle.octets.proofs.OctetsLaws.{be-past, be-parts, be-one}
 use Rattle.octets.proofs.get_u16_be.Statement.{statement}
 use Rattle.octets.proofs.get_u16_be.Tie as tie
 
-returns : tie.Need-returns
-returns c = sym (be-past _ _ 2 (c .if1 .taken))
-
-returns-2 : tie.Need-returns-2
-returns-2 c =
-    let a = c .before .before .before .before .args in
-    omega (arith, be-parts (a .s .now) (a .at) 1 1, be-one (a .s .now) (a .at), be-one (a .s .now) (a .at + 1))
-
 pub get-u16-be-spec : {M : Type 1} → statement M
-get-u16-be-spec =
-    tie.close
-    (tie.spec
-    returns
-    (search needs)
-    (search needs)
-    (search needs)
-    (search needs)
-    (search needs)
-    (search needs)
-    (search needs)
-    returns-2)
+get-u16-be-spec = tie.close (tie.spec (λ c. sym (be-past _ _ 2 (c .if1 .taken))) (search needs) (search needs) (search needs) (search needs) (search needs) (search needs)
+    (search needs) (λ c. let a = c .before .before .before .before .args in omega (arith, be-parts (a .s .now) (a .at) 1 1, be-one (a .s .now) (a .at), be-one (a .s .now) (a .at + 1))))

@@ -4,24 +4,6 @@ use Rattle.octets.proofs.OctetsLaws.{le-past, le-parts}
 use Rattle.octets.proofs.get_u64_le.Statement.{statement}
 use Rattle.octets.proofs.get_u64_le.Tie as tie
 
-returns : tie.Need-returns
-returns c = sym (le-past _ _ 8 (c .if1 .taken))
-
-returns-2 : tie.Need-returns-2
-returns-2 c =
-    let a = c .before .before .before .before .args in
-    omega (arith, le-parts (a .s .now) (a .at) 4 4)
-
 pub get-u64-le-spec : {M : Type 1} → statement M
-get-u64-le-spec =
-    tie.close
-    (tie.spec
-    returns
-    (search needs)
-    (search needs)
-    (search needs)
-    (search needs)
-    (search needs)
-    (search needs)
-    (search needs)
-    returns-2)
+get-u64-le-spec = tie.close (tie.spec (λ c. sym (le-past _ _ 8 (c .if1 .taken))) (search needs) (search needs) (search needs) (search needs) (search needs) (search needs)
+    (search needs) (λ c. let a = c .before .before .before .before .args in omega (arith, le-parts (a .s .now) (a .at) 4 4)))

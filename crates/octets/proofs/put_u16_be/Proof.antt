@@ -5,23 +5,6 @@ use Rattle.octets.proofs.OctetsLaws.{put-past, put-parts-be, beBytes-on
 use Rattle.octets.proofs.put_u16_be.Statement.{statement}
 use Rattle.octets.proofs.put_u16_be.Tie as tie
 
-returns : tie.Need-returns
-returns c = sym (put-past _ _ _ (c .if1 .taken))
-
-returns-2 : tie.Need-returns-2
-returns-2 c =
-    let a = c .before .before .before .before .before .before .before .before .before .before .args in
-    cc (put-parts-be (a .d .now) (a .at) 1 1 (a .v), beBytes-one (a .v / 256), beBytes-one (a .v % 256))
-
 pub put-u16-be-spec : {M : Type 1} → statement M
-put-u16-be-spec =
-    tie.close
-    (tie.spec
-    returns
-    (search needs)
-    (search needs)
-    (search needs)
-    (search needs)
-    (search needs)
-    (search needs)
-    returns-2)
+put-u16-be-spec = tie.close (tie.spec (λ c. sym (put-past _ _ _ (c .if1 .taken))) (search needs) (search needs) (search needs) (search needs) (search needs)
+    (search needs) (λ c. let a = c .before .before .before .before .before .before .before .before .before .before .args in cc (put-parts-be (a .d .now) (a .at) 1 1 (a .v), beBytes-one (a .v / 256), beBytes-one (a .v % 256))))

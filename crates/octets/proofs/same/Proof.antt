@@ -34,22 +34,5 @@ unfolding octetsAt sameOctets
 returns-4 c = rw (c .before .loop .inv, c .loop-test .left)
 
 pub same-spec : {M : Type 1} → statement M
-same-spec =
-    tie.close
-    (tie.spec
-    Inv-loop
-    μ-loop
-    (λ c. refl)
-    (λ c κs. search needs)
-    returns
-    (λ c κs. search needs)
-    returns-2
-    (λ c. search needs)
-    (λ c. search needs)
-    returns-3
-    (λ c. search needs)
-    (λ c. search needs)
-    (λ c. search needs)
-    (λ c. search needs)
-    loop-again
-    returns-4)
+same-spec = tie.close (tie.spec Inv-loop μ-loop (λ c. refl) (λ c κs. search needs) returns (λ c κs. search needs) returns-2 (λ c. search needs) (λ c. search needs)
+    returns-3 (λ c. search needs) (λ c. search needs) (λ c. search needs) (λ c. search needs) loop-again returns-4)
