@@ -4,7 +4,7 @@ use Rattle.octets.specs.Words.{ℕ, zero, suc, _≤_, _≡_, not, _||_, List, l
 use Rattle.octets.proofs.Tools.{refl, arith}
 use Rattle.endpoint.specs.declared.ProtectedEndpoint.{ProtectedEndpoint}
 use Rattle.packet.specs.Rfc791.{version}
-use Rattle.packet.specs.Reading.{Answer, Outcome, settled, onward, follow, stop, sortOf, udpOf, stepOf, walkOf, ipv4Head, ipv4Of, ipv6Head, ipv6Of, known, classifyOf}
+use Rattle.packet.specs.Reading.{Disposition, Answer, Outcome, settled, onward, follow, stop, sortOf, udpOf, stepOf, walkOf, ipv4Head, ipv4Of, ipv6Head, ipv6Of, known, classifyOf}
 use Rattle.packet.proofs.Laws.{cond-all, walk-count}
 
 abbrev Within : ℕ → Answer → Type 0
@@ -18,7 +18,7 @@ module _ (s : List ℕ) (p : ProtectedEndpoint) where
   pub ipv4-count : ipv4Of s p .headers ≡ 0
   ipv4-count = let h : Within 0 (ipv4Of s p) = followed 0 (ipv4Head s (p .address)) _ (λ m c. omega arith) in omega arith
 
-  pub before-walk-count : (c d : ℕ) → ipv6Head s (p .address) ≡ settled c d → ipv6Of s p .headers ≡ 0
+  pub before-walk-count : (c : ℕ) (d : Disposition) → ipv6Head s (p .address) ≡ settled c d → ipv6Of s p .headers ≡ 0
   before-walk-count c d e = rw e
 
   -- UDP is not counted: it needs no allowance, so that four headers and then UDP are good

@@ -1,5 +1,5 @@
 -- Document 01, 'Reading a packet': its decisions, in its order. Assumes nothing.
-use Rattle.octets.specs.Words.{ℕ, zero, suc, _+_, Bool, false, cond, not, _||_, List, [], _∷_, length, eqb, ltb}
+use Rattle.octets.specs.Words.{ℕ, zero, suc, _+_, Bool, true, false, cond, not, _||_, List, [], _∷_, length, eqb, ltb}
 use Rattle.octets.specs.Octets.{octetsAt, sameOctets}
 use Rattle.octets.specs.Lists.{among}
 use Rattle.endpoint.specs.declared.ProtectedEndpoint.{ProtectedEndpoint}
@@ -8,32 +8,38 @@ use Rattle.packet.specs.Rfc768 as udp
 use Rattle.packet.specs.Rfc8200 as ip6
 use Rattle.packet.specs.Rfc4302 as ah
 
--- the dispositions by number: 01 gives none, so they are counted from 0 in the order of packet.rs
-abbrev pub protected : ℕ
-protected = 0
+-- what a packet proves of its source: that it is the endpoint, that it is not, or neither
+pub data Disposition : Type 0 where
+  protected : Disposition
+  unrelated : Disposition
+  indeterminate : Disposition
 
-abbrev pub unrelated : ℕ
-unrelated = 1
+abbrev pub isUnrelated : Disposition → Bool
+isUnrelated protected = false
+isUnrelated unrelated = true
+isUnrelated indeterminate = false
 
-abbrev pub indeterminate : ℕ
-indeterminate = 2
+abbrev pub isIndeterminate : Disposition → Bool
+isIndeterminate protected = false
+isIndeterminate unrelated = false
+isIndeterminate indeterminate = true
 
 -- an answer: the disposition, and the number of extension headers passed
 pub record Answer : Type 0 where
-  pub disposition : ℕ
+  pub disposition : Disposition
   pub headers : ℕ
 
 -- what a header comes to: reading stops at the place c with a disposition, or goes on to the next header's value and place
 pub data Outcome : Type 0 where
-  settled : (c d : ℕ) → Outcome
+  settled : (c : ℕ) (d : Disposition) → Outcome
   onward : (n c : ℕ) → Outcome
 
-abbrev pub follow : {A : Type 0} → (ℕ → ℕ → A) → Outcome → (ℕ → ℕ → A) → A
+abbrev pub follow : {A : Type 0} → (ℕ → Disposition → A) → Outcome → (ℕ → ℕ → A) → A
 follow f (settled c d) k = f c d
 follow f (onward n c) k = k n c
 
 -- the answer where reading stops at c, which is no part of it; and the answer after one header more
-abbrev pub stop : ℕ → ℕ → Answer
+abbrev pub stop : ℕ → Disposition → Answer
 stop c d = record { disposition = d; headers = 0 }
 
 abbrev pub passed : Answer → Answer
@@ -52,7 +58,7 @@ abbrev pub byClass : {A : Type 0} → ℕ → A → A → A → A → A → A �
 byClass k p u o w f x = cond (eqb k 0) p (cond (eqb k 1) u (cond (eqb k 2) o (cond (eqb k 3) w (cond (eqb k 4) f x))))
 
 -- 17: the UDP header at c, in a packet that ends at e. c + 8 > e: Indeterminate; else the port at c decides
-unfoldable pub udpOf : List ℕ → ℕ → ℕ → ℕ → ℕ
+unfoldable pub udpOf : List ℕ → ℕ → ℕ → ℕ → Disposition
 udpOf s port e c = cond (ltb e (c + 8)) indeterminate (cond (eqb (udp.sourcePort s c) port) protected unrelated)
 
 -- an extension header at c, with allowance a, that has l bytes, of which r are looked at: no allowance, c + r > e, or the header

@@ -7,7 +7,7 @@ ghost use Rattle.octets.specs.Words.{_+_, _*_, _≤_, _≡_, cond, _||_, eqb, l
 ghost use Rattle.octets.specs.Octets.{octetsAt, sameOctets};
 ghost use Rattle.packet.specs.Rfc791.{source as source4};
 ghost use Rattle.packet.specs.Rfc8200.{source as source6, lengthByte};
-ghost use Rattle.packet.specs.Answers.{dispositionNumber, answerOf};
+ghost use Rattle.packet.specs.Answers.{dispositionOf, dispositionNumber, dispositionNumbered, answerOf};
 ghost use Rattle.packet.specs.Steps.{classNumber, outcomeOf, Walked};
 ghost use Rattle.packet.specs.Reading.{unrelated, indeterminate, stop, sortOf, udpOf, passOf, countedOf, fragmentOf, stepOf, walkOf, ipv4Of, ipv6Of, known, classifyOf};
 
@@ -60,7 +60,7 @@ const UDP_HEADER_LEN: usize = 8;
 
 // The answer before the walk, and of every IPv4 packet: no header is passed.
 fn stopped(disposition: PacketEndpointDisposition) -> PacketReading
-    ensures { λ r. ⌜ answerOf r ≡ stop 0 (dispositionNumber disposition) ⌝ }
+    ensures { λ r. ⌜ answerOf r ≡ stop 0 (dispositionOf disposition) ⌝ }
 {
     PacketReading {
         disposition,
@@ -79,7 +79,7 @@ fn past(at: usize, len: usize, end: usize) -> bool
 
 // The UDP header at `at`, in a packet that ends at `end`: the source port decides.
 fn udp(packet: &[u8], port: u16, end: usize, at: usize) -> PacketEndpointDisposition
-    ensures { λ r. ⌜ dispositionNumber r ≡ udpOf (now (packet .entry)) port end at ⌝ }
+    ensures { λ r. ⌜ dispositionOf r ≡ udpOf (now (packet .entry)) port end at ⌝ }
 {
     if past(at, UDP_HEADER_LEN, end) {
         return PacketEndpointDisposition::Indeterminate;
@@ -184,7 +184,7 @@ fn take_step(packet: &[u8], port: u16, end: usize, allowance: u8, next: u8, at: 
 
 // The dispositions by number, as the walk hands them back.
 fn number(disposition: PacketEndpointDisposition) -> u8
-    ensures { λ r. ⌜ (r ≡ dispositionNumber disposition) × (r ≤ 2) ⌝ }
+    ensures { λ r. ⌜ r ≡ dispositionNumber (dispositionOf disposition) ⌝ }
 {
     match disposition {
         PacketEndpointDisposition::Protected => 0,
@@ -194,8 +194,7 @@ fn number(disposition: PacketEndpointDisposition) -> u8
 }
 
 fn disposition_of(number: u8) -> PacketEndpointDisposition
-    requires { ⌜ number ≤ 2 ⌝ }
-    ensures { λ r. ⌜ dispositionNumber r ≡ number ⌝ }
+    ensures { λ r. ⌜ dispositionOf r ≡ dispositionNumbered number ⌝ }
 {
     match number {
         0 => PacketEndpointDisposition::Protected,

@@ -3,7 +3,7 @@
 use Rattle.octets.specs.Words.{false, not, _||_, length}
 use Rattle.octets.proofs.Tools.{_∙_, needs, eq-eqb, ne-eqb}
 use mathlib.Core.Bool.{or-true}
-use Rattle.packet.specs.Reading.{known, stop, classifyOf}
+use Rattle.packet.specs.Reading.{unrelated, indeterminate, known, stop, classifyOf}
 use Rattle.packet.proofs.Laws.{either-way, other-way}
 use Rattle.packet.proofs.classify_l3_udp_source.Statement.{statement}
 use Rattle.packet.proofs.classify_l3_udp_source.Tie as tie
@@ -25,7 +25,7 @@ unfolding classifyOf
 returns-3 c =
     let version = c .before .before in
     let start = version .before .before .before .before in
-    simp (ne-eqb _ _ (version .before .before .if1 .left), ← version .before .get-u8 .ensures, version .match .keys1, ne-eqb _ _ (c .before .if2 .left)) (c .foreign .ensures ∙ other-way (known (start .args .endpoint .family)) (stop 0 1) (stop 0 2))
+    simp (ne-eqb _ _ (version .before .before .if1 .left), ← version .before .get-u8 .ensures, version .match .keys1, ne-eqb _ _ (c .before .if2 .left)) (c .foreign .ensures ∙ other-way (known (start .args .endpoint .family)) (stop 0 unrelated) (stop 0 indeterminate))
 
 returns-4 : tie.Need-returns-4
 unfolding classifyOf known
@@ -38,14 +38,14 @@ unfolding classifyOf
 returns-5 c =
     let version = c .before .before in
     let start = version .before .before .before .before in
-    simp (ne-eqb _ _ (version .before .before .if1 .left), ← version .before .get-u8 .ensures, version .match .keys2, ne-eqb _ _ (c .before .if3 .left)) (c .foreign2 .ensures ∙ other-way (known (start .args .endpoint .family)) (stop 0 1) (stop 0 2))
+    simp (ne-eqb _ _ (version .before .before .if1 .left), ← version .before .get-u8 .ensures, version .match .keys2, ne-eqb _ _ (c .before .if3 .left)) (c .foreign2 .ensures ∙ other-way (known (start .args .endpoint .family)) (stop 0 unrelated) (stop 0 indeterminate))
 
 returns-6 : tie.Need-returns-6
 unfolding classifyOf
 returns-6 c =
     let version = c .before in
     let start = version .before .before .before .before in
-    simp (ne-eqb _ _ (version .before .before .if1 .left), ← version .before .get-u8 .ensures, ne-eqb _ _ (version .match .rest .0 .1), ne-eqb _ _ (version .match .rest .1)) (c .stopped2 .ensures ∙ either-way (not (known (start .args .endpoint .family)) || false) (stop 0 2))
+    simp (ne-eqb _ _ (version .before .before .if1 .left), ← version .before .get-u8 .ensures, ne-eqb _ _ (version .match .rest .0 .1), ne-eqb _ _ (version .match .rest .1)) (c .stopped2 .ensures ∙ either-way (not (known (start .args .endpoint .family)) || false) (stop 0 indeterminate))
 
 pub classify-l3-udp-source-spec : {M : Type 1} → statement M
 classify-l3-udp-source-spec =

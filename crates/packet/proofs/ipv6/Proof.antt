@@ -1,8 +1,9 @@
 -- `ipv6`: on each way to an answer the tests taken and left are the definition's, in the definition's order; past them the answer is
 -- the walk's. Assumes nothing.
-use Rattle.octets.proofs.Tools.{_∙_, needs, eq-eqb, ne-eqb, lt-ltb, le-ltb}
+use Rattle.octets.proofs.Tools.{ap, _∙_, needs, eq-eqb, ne-eqb, lt-ltb, le-ltb}
 use Rattle.packet.specs.Reading.{ipv6Head}
-use Rattle.packet.proofs.Laws.{answered}
+use Rattle.packet.specs.Answers.{dispositionNumbered}
+use Rattle.packet.proofs.Laws.{answered, number-back}
 use Rattle.packet.proofs.ipv6.Statement.{statement}
 use Rattle.packet.proofs.ipv6.Tie as tie
 
@@ -43,7 +44,7 @@ returns-5 c =
     let payload = end .before in
     let source = payload .before .before in
     let length = source .before .before .before .before .before in
-    simp (le-ltb _ _ (length .if1 .left), ← source .before .same-ipv6 .ensures, source .if2 .left, ← payload .before .get-u16-be .ensures, ne-eqb _ _ (payload .if3 .left), le-ltb _ _ (end .if4 .left), ← next .get-u8 .ensures) (answered _ _ _ (c .disposition-of .ensures ∙ walked .walk .ensures .disposition) (walked .walk .ensures .headers))
+    simp (le-ltb _ _ (length .if1 .left), ← source .before .same-ipv6 .ensures, source .if2 .left, ← payload .before .get-u16-be .ensures, ne-eqb _ _ (payload .if3 .left), le-ltb _ _ (end .if4 .left), ← next .get-u8 .ensures) (answered _ _ _ (c .disposition-of .ensures ∙ ap dispositionNumbered (walked .walk .ensures .disposition) ∙ number-back _) (walked .walk .ensures .headers))
 
 pub ipv6-spec : {M : Type 1} → statement M
 ipv6-spec =
