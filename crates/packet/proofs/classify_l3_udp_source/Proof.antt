@@ -4,7 +4,7 @@ use Rattle.octets.specs.Words.{false, not, _||_, length}
 use Rattle.octets.proofs.Tools.{_∙_, needs, eq-eqb, ne-eqb}
 use mathlib.Core.Bool.{or-true}
 use Rattle.packet.specs.Reading.{unrelated, indeterminate, known, stop, classifyOf}
-use Rattle.packet.proofs.Laws.{either-way, other-way}
+use Rattle.octets.proofs.Choices.{either-way, other-way}
 use Rattle.packet.proofs.classify_l3_udp_source.Statement.{statement}
 use Rattle.packet.proofs.classify_l3_udp_source.Tie as tie
 
