@@ -2,5 +2,6 @@
 pub mod OctetsLaws
 pub mod SameLaws
 pub mod Tools
+pub mod Choices
 pub mod UniqueLaws
 pub mod Unique

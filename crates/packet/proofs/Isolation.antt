@@ -8,8 +8,9 @@ use Rattle.octets.specs.Octets.{octetsAt, le}
 use Rattle.octets.specs.Lists.{span, inside, bytesAt}
 use Rattle.endpoint.specs.declared.ProtectedEndpoint.{ProtectedEndpoint}
 use Rattle.packet.specs.Rfc791.{version}
-use Rattle.packet.specs.Reading.{Outcome, settled, onward, follow, entered, sortOf, udpOf, passOf, countedOf, fragmentOf, stepOf, stop, passed, walkOf, ipv4Head, ipv4Of, ipv6Head, ipv6Of, known, classifyOf}
-use Rattle.packet.specs.Places.{udpPlaces, stepPlaces, walkPlaces, ipv4Rest, ipv6Rest, named, places}
+use Rattle.packet.specs.Reading.{Disposition, unrelated, indeterminate, Outcome, settled, onward, follow, entered, sortOf, udpOf, passOf, countedOf, fragmentOf, stepOf, stop, passed, walkOf, ipv4Head, ipv4Of, ipv6Head, ipv6Of, known, classifyOf}
+use Rattle.packet.specs.Places.{udpPlaces, stepPlaces, walkPlaces, ipv4Rest, ipv6Rest, named}
+use Rattle.packet.specs.Promises.{Isolation}
 
 module _ (s t : List ℕ) where
   -- s and t have the same bytes at the places l
@@ -47,7 +48,7 @@ module _ (s t : List ℕ) where
   choice false p q h f g = g h
 
   -- what follows an outcome
-  follow-same : {A : Type 0} (f : ℕ → ℕ → A) (o : Outcome) (k : ℕ → ℕ → List ℕ) (x y : ℕ → ℕ → A) → Same (follow (λ _ _. []) o k) → ((n c : ℕ) → Same (k n c) → x n c ≡ y n c) → follow f o x ≡ follow f o y
+  follow-same : {A : Type 0} (f : ℕ → Disposition → A) (o : Outcome) (k : ℕ → ℕ → List ℕ) (x y : ℕ → ℕ → A) → Same (follow (λ _ _. []) o k) → ((n c : ℕ) → Same (k n c) → x n c ≡ y n c) → follow f o x ≡ follow f o y
   follow-same f (settled c d) k x y h g = refl
   follow-same f (onward n c) k x y h g = g n c h
 
@@ -92,7 +93,7 @@ module _ (s t : List ℕ) where
   -- the fixed headers, byte 0 being the same
   module _ (e : length s ≡ length t) (v : octetsAt s 0 1 ≡ octetsAt t 0 1) (p : ProtectedEndpoint) where
     ipv4-same : Same (span 2 2 ++ (span 6 2 ++ (span 9 1 ++ (span 12 4 ++ ipv4Rest s p)))) →
-        cond (eqb (p .family) 4) (ipv4Of s p) (stop 0 1) ≡ cond (eqb (p .family) 4) (ipv4Of t p) (stop 0 1)
+        cond (eqb (p .family) 4) (ipv4Of s p) (stop 0 unrelated) ≡ cond (eqb (p .family) 4) (ipv4Of t p) (stop 0 unrelated)
     unfolding ipv4Head
     ipv4-same h =
         let total = split (span 2 2) _ h in
@@ -107,7 +108,7 @@ module _ (s t : List ℕ) where
         (λ _. refl)
 
     ipv6-same : Same (span 4 3 ++ (span 8 16 ++ ipv6Rest s p)) →
-        cond (eqb (p .family) 6) (ipv6Of s p) (stop 0 1) ≡ cond (eqb (p .family) 6) (ipv6Of t p) (stop 0 1)
+        cond (eqb (p .family) 6) (ipv6Of s p) (stop 0 unrelated) ≡ cond (eqb (p .family) 6) (ipv6Of t p) (stop 0 unrelated)
     unfolding ipv6Head
     ipv6-same h =
         let fields = split (span 4 3) _ h in
@@ -125,10 +126,9 @@ module _ (s t : List ℕ) where
   classify-same e p h =
       let first = split (span 0 1) _ h in
       let v = field 0 1 (first .0) in
-      rw (← e, ← v) (ap (λ r. cond (not (known (p .family)) || eqb (length s) 0) (stop 0 2) r)
+      rw (← e, ← v) (ap (λ r. cond (not (known (p .family)) || eqb (length s) 0) (stop 0 indeterminate) r)
       (choice (eqb (version s) 4) _ _ (first .1) (ipv4-same e v p) (λ h′.
       choice (eqb (version s) 6) _ _ h′ (ipv6-same e v p) (λ _. refl))))
 
--- two packets of one length that agree at the first one's places have one answer, the header count with it
-pub isolation : (s t : List ℕ) (p : ProtectedEndpoint) → length s ≡ length t → bytesAt s (places s p) ≡ bytesAt t (places s p) → classifyOf s p ≡ classifyOf t p
+pub isolation : Isolation
 isolation s t p e h = classify-same s t e p (same-inside s t e (named s p) h)

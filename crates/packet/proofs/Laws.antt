@@ -2,16 +2,16 @@
 -- subtraction, and the walk a step at a time. Assumes nothing.
 use Rattle.octets.specs.Words.{ℕ, zero, suc, _+_, _-_, _*_, _<_, _≤_, _≡_, Bool, true, false, cond, not, _&&_, _||_, List, getD, eqb, ltb}
 use Rattle.octets.proofs.Tools.{refl, sym, ap, _∙_, arith, eq-eqb, ne-eqb, lt-ltb, le-ltb, eqb-true, eqb-false, ltb-true, ltb-false}
+use Rattle.octets.proofs.Choices.{cond-all}
 use mathlib.Core.Logic.{_⊎_, inl, inr, ⊎-elim}
 use native.Mathlib.Nat.{eq-or-lt-of-le, zero-add, add-zero, suc-add, mul-le-mul-right}
 use native.Mathlib.Numerals.{sub-one}
-use Rattle.octets.specs.Octets.{Bytes, octetsAt, le, sameOctets}
 use Rattle.packet.specs.declared.PacketEndpointDisposition.{PacketEndpointDisposition}
 use Rattle.packet.specs.declared.Step.{Step}
 use Rattle.packet.specs.declared.Step.the-variants.{Stop, Pass}
-use Rattle.packet.specs.Answers.{dispositionNumber}
-use Rattle.packet.specs.Steps.{outcomeOf}
-use Rattle.packet.specs.Reading.{Answer, Outcome, settled, onward, follow, sortOf, byClass, countedOf, fragmentOf, stepOf, stop, passed, walkOf}
+use Rattle.packet.specs.Answers.{dispositionOf, dispositionNumber, dispositionNumbered}
+use Rattle.packet.specs.Inner.Steps.{outcomeOf}
+use Rattle.packet.specs.Reading.{Disposition, protected, unrelated, indeterminate, Answer, Outcome, settled, onward, follow, sortOf, byClass, countedOf, fragmentOf, stepOf, stop, passed, walkOf}
 
 -- ---- the sorting, as a `match` with its groups tells it
 
@@ -60,21 +60,7 @@ entered-room false e n q = ltb-false e n q
 pub product-bound : (u n k : ℕ) → u ≤ 8 → n < 256 → k ≤ 2 → u * (n + k) < 4096
 product-bound u n k a b d = let h : u * (n + k) ≤ 8 * (n + k) = mul-le-mul-right (n + k) a in omega arith
 
--- ---- cases
-
-pub either-way : {A : Type 0} (b : Bool) (x : A) → x ≡ cond b x x
-either-way true x = refl
-either-way false x = refl
-
-pub other-way : {A : Type 0} (b : Bool) (x y : A) → cond b x y ≡ cond (not b || false) y x
-other-way true x y = refl
-other-way false x y = refl
-
 -- ---- the walk, a step at a time
-
-pub cond-all : {A : Type 0} (P : A → Type 0) (b : Bool) {x y : A} → P x → P y → P (cond b x y)
-cond-all P true p q = p
-cond-all P false p q = q
 
 byClass-all : {A : Type 0} (P : A → Type 0) (k : ℕ) {p u o w f x : A} → P p → P u → P o → P w → P f → P x → P (byClass k p u o w f x)
 byClass-all P k pp pu po pw pf px =
@@ -83,7 +69,7 @@ byClass-all P k pp pu po pw pf px =
 abbrev Stops : Outcome → Type 0
 Stops o = (n c : ℕ) → o ≡ onward n c → ⊥
 
-settled-stops : {c d : ℕ} → Stops (settled c d)
+settled-stops : {c : ℕ} {d : Disposition} → Stops (settled c d)
 settled-stops n c q = let z : _≡_ {A = ℕ} 0 1 = cc in omega arith
 
 module _ (s : List ℕ) (port e : ℕ) where
@@ -97,7 +83,7 @@ module _ (s : List ℕ) (port e : ℕ) where
   unfolding walkOf
   walk-count zero n c = go (stepOf s port e 0 n c)
     where
-      go : (o : Outcome) → follow stop o (λ _ c′. stop c′ 2) .headers ≤ 0
+      go : (o : Outcome) → follow stop o (λ _ c′. stop c′ indeterminate) .headers ≤ 0
       go (settled c′ d) = omega arith
       go (onward n′ c′) = omega arith
   walk-count (suc a) n c = go (stepOf s port e (suc a) n c) (λ n′ c′. walk-count a n′ c′)
@@ -108,7 +94,7 @@ module _ (s : List ℕ) (port e : ℕ) where
 
   -- where the code's step stops, the walk is over; where it passes a header, there was an allowance, and the walk is the rest's
   pub walk-stops : (a n c : ℕ) (r : Step) (d : PacketEndpointDisposition) → outcomeOf c r ≡ stepOf s port e a n c → r ≡ Stop d →
-      walkOf s port e a n c ≡ stop c (dispositionNumber d)
+      walkOf s port e a n c ≡ stop c (dispositionOf d)
   unfolding walkOf
   walk-stops zero n c r d p q = rw (← p, q)
   walk-stops (suc a) n c r d p q = rw (← p, q)
@@ -120,5 +106,11 @@ module _ (s : List ℕ) (port e : ℕ) where
   walk-on (suc a) n c r n′ c′ p q = (omega arith, rw (← p, q, sub-one))
 
 -- an answer from its parts
-pub answered : (r : Answer) (d h : ℕ) → d ≡ r .disposition → h ≡ 0 + r .headers → record { disposition = d; headers = h } ≡ r
+pub answered : (r : Answer) (d : Disposition) (h : ℕ) → d ≡ r .disposition → h ≡ 0 + r .headers → record { disposition = d; headers = h } ≡ r
 answered r d h p q = let q′ : h ≡ r .headers = omega arith in λ i. record { disposition = p i; headers = q′ i }
+
+-- a disposition from its number, as the walk hands it back
+pub number-back : (d : Disposition) → dispositionNumbered (dispositionNumber d) ≡ d
+number-back protected = refl
+number-back unrelated = refl
+number-back indeterminate = refl

@@ -1,18 +1,31 @@
--- What the answer's types stand for: the number of each disposition, and the answer of the definitions. Assumes nothing.
+-- What the answer's types stand for: a disposition as the definitions have it, its number, and the answer of the definitions. Assumes
+-- nothing.
 use Rattle.octets.specs.Words.{ℕ, cond, eqb}
-use Rattle.packet.specs.Reading.{protected, unrelated, indeterminate, Answer}
+use Rattle.packet.specs.Reading.{Disposition, protected, unrelated, indeterminate, Answer}
 use Rattle.packet.specs.declared.PacketEndpointDisposition.{PacketEndpointDisposition}
 use Rattle.packet.specs.declared.PacketEndpointDisposition.the-variants.{Protected, Unrelated, Indeterminate}
 use Rattle.packet.specs.declared.PacketReading.{PacketReading}
 
-abbrev pub dispositionNumber : PacketEndpointDisposition → ℕ
-dispositionNumber Protected = protected
-dispositionNumber Unrelated = unrelated
-dispositionNumber Indeterminate = indeterminate
+abbrev pub dispositionOf : PacketEndpointDisposition → Disposition
+dispositionOf Protected = protected
+dispositionOf Unrelated = unrelated
+dispositionOf Indeterminate = indeterminate
 
--- and the disposition of a number
-abbrev pub dispositionOf : ℕ → PacketEndpointDisposition
-dispositionOf n = cond (eqb n 0) Protected (cond (eqb n 1) Unrelated Indeterminate)
+-- and back
+abbrev pub dispositionFrom : Disposition → PacketEndpointDisposition
+dispositionFrom protected = Protected
+dispositionFrom unrelated = Unrelated
+dispositionFrom indeterminate = Indeterminate
+
+-- the dispositions by number: 01 gives none, so they are counted from 0 in the order of packet.rs
+abbrev pub dispositionNumber : Disposition → ℕ
+dispositionNumber protected = 0
+dispositionNumber unrelated = 1
+dispositionNumber indeterminate = 2
+
+-- the disposition of a number
+abbrev pub dispositionNumbered : ℕ → Disposition
+dispositionNumbered n = cond (eqb n 0) protected (cond (eqb n 1) unrelated indeterminate)
 
 abbrev pub answerOf : PacketReading → Answer
-answerOf r = record { disposition = dispositionNumber (r .disposition); headers = r .headers }
+answerOf r = record { disposition = dispositionOf (r .disposition); headers = r .headers }

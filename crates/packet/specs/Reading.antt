@@ -1,5 +1,5 @@
 -- Document 01, 'Reading a packet': its decisions, in its order. Assumes nothing.
-use Rattle.octets.specs.Words.{ℕ, zero, suc, _+_, Bool, false, cond, not, _||_, List, [], _∷_, length, eqb, ltb}
+use Rattle.octets.specs.Words.{ℕ, zero, suc, _+_, Bool, true, false, cond, not, _||_, List, [], _∷_, length, eqb, ltb}
 use Rattle.octets.specs.Octets.{octetsAt, sameOctets}
 use Rattle.octets.specs.Lists.{among}
 use Rattle.endpoint.specs.declared.ProtectedEndpoint.{ProtectedEndpoint}
@@ -8,32 +8,38 @@ use Rattle.packet.specs.Rfc768 as udp
 use Rattle.packet.specs.Rfc8200 as ip6
 use Rattle.packet.specs.Rfc4302 as ah
 
--- the dispositions by number: 01 gives none, so they are counted from 0 in the order of packet.rs
-abbrev pub protected : ℕ
-protected = 0
+-- what a packet proves of its source: that it is the endpoint, that it is not, or neither
+pub data Disposition : Type 0 where
+  protected : Disposition
+  unrelated : Disposition
+  indeterminate : Disposition
 
-abbrev pub unrelated : ℕ
-unrelated = 1
+abbrev pub isUnrelated : Disposition → Bool
+isUnrelated protected = false
+isUnrelated unrelated = true
+isUnrelated indeterminate = false
 
-abbrev pub indeterminate : ℕ
-indeterminate = 2
+abbrev pub isIndeterminate : Disposition → Bool
+isIndeterminate protected = false
+isIndeterminate unrelated = false
+isIndeterminate indeterminate = true
 
 -- an answer: the disposition, and the number of extension headers passed
 pub record Answer : Type 0 where
-  pub disposition : ℕ
+  pub disposition : Disposition
   pub headers : ℕ
 
 -- what a header comes to: reading stops at the place c with a disposition, or goes on to the next header's value and place
 pub data Outcome : Type 0 where
-  settled : (c d : ℕ) → Outcome
+  settled : (c : ℕ) (d : Disposition) → Outcome
   onward : (n c : ℕ) → Outcome
 
-abbrev pub follow : {A : Type 0} → (ℕ → ℕ → A) → Outcome → (ℕ → ℕ → A) → A
+abbrev pub follow : {A : Type 0} → (ℕ → Disposition → A) → Outcome → (ℕ → ℕ → A) → A
 follow f (settled c d) k = f c d
 follow f (onward n c) k = k n c
 
 -- the answer where reading stops at c, which is no part of it; and the answer after one header more
-abbrev pub stop : ℕ → ℕ → Answer
+abbrev pub stop : ℕ → Disposition → Answer
 stop c d = record { disposition = d; headers = 0 }
 
 abbrev pub passed : Answer → Answer
@@ -52,7 +58,7 @@ abbrev pub byClass : {A : Type 0} → ℕ → A → A → A → A → A → A �
 byClass k p u o w f x = cond (eqb k 0) p (cond (eqb k 1) u (cond (eqb k 2) o (cond (eqb k 3) w (cond (eqb k 4) f x))))
 
 -- 17: the UDP header at c, in a packet that ends at e. c + 8 > e: Indeterminate; else the port at c decides
-unfoldable pub udpOf : List ℕ → ℕ → ℕ → ℕ → ℕ
+unfoldable pub udpOf : List ℕ → ℕ → ℕ → ℕ → Disposition
 udpOf s port e c = cond (ltb e (c + 8)) indeterminate (cond (eqb (udp.sourcePort s c) port) protected unrelated)
 
 -- an extension header at c, with allowance a, that has l bytes, of which r are looked at: no allowance, c + r > e, or the header
@@ -85,26 +91,42 @@ unfoldable pub walkOf : List ℕ → ℕ → ℕ → ℕ → ℕ → ℕ → Ans
 walkOf s port e zero n c = follow stop (stepOf s port e zero n c) (λ _ c′. stop c′ indeterminate)
 walkOf s port e (suc a) n c = follow stop (stepOf s port e (suc a) n c) (λ n′ c′. passed (walkOf s port e a n′ c′))
 
+-- a test of the fixed header, and what the packet is where it holds
+pub data Test : Type 0 where
+  test : (holds : Bool) (d : Disposition) → Test
+
+-- the first test that holds settles what the packet is; where none does, reading goes on to the header of value n at c
+abbrev pub tested : List Test → ℕ → ℕ → Outcome
+tested [] n c = onward n c
+tested (test b d ∷ ts) n c = cond b (settled 0 d) (tested ts n c)
+
 -- IPv4 (RFC 791), in order; at its end the UDP header stands at h and must end by t
+abbrev pub ipv4Tests : List ℕ → List ℕ → List Test
+ipv4Tests s address =
+    test (ltb (length s) 20) indeterminate ∷
+    test (ltb (ip4.headerLength s) 20) indeterminate ∷
+    test (not (sameOctets (ip4.source s) (octetsAt address 0 4))) unrelated ∷
+    test (ltb (ip4.totalLength s) (ip4.headerLength s)) indeterminate ∷
+    test (ltb (length s) (ip4.totalLength s)) indeterminate ∷
+    test (not (eqb (ip4.protocol s) 17)) unrelated ∷
+    test (not (ip4.whole s)) indeterminate ∷ []
+
 unfoldable pub ipv4Head : List ℕ → List ℕ → Outcome
-ipv4Head s address =
-    cond (ltb (length s) 20 || ltb (ip4.headerLength s) 20) (settled 0 indeterminate)
-    (cond (not (sameOctets (ip4.source s) (octetsAt address 0 4))) (settled 0 unrelated)
-    (cond (ltb (ip4.totalLength s) (ip4.headerLength s) || ltb (length s) (ip4.totalLength s)) (settled 0 indeterminate)
-    (cond (not (eqb (ip4.protocol s) 17)) (settled 0 unrelated)
-    (cond (not (ip4.whole s)) (settled 0 indeterminate)
-    (onward 17 (ip4.headerLength s))))))
+ipv4Head s address = tested (ipv4Tests s address) 17 (ip4.headerLength s)
 
 abbrev pub ipv4Of : List ℕ → ProtectedEndpoint → Answer
 ipv4Of s p = follow stop (ipv4Head s (p .address)) (λ _ h. stop h (udpOf s (p .port) (ip4.totalLength s) h))
 
 -- IPv6 (RFC 8200); the walk begins at 40 with an allowance of 4
+abbrev pub ipv6Tests : List ℕ → List ℕ → List Test
+ipv6Tests s address =
+    test (ltb (length s) 40) indeterminate ∷
+    test (not (sameOctets (ip6.source s) (octetsAt address 0 16))) unrelated ∷
+    test (eqb (ip6.payloadLength s) 0) indeterminate ∷
+    test (ltb (length s) (ip6.end s)) indeterminate ∷ []
+
 unfoldable pub ipv6Head : List ℕ → List ℕ → Outcome
-ipv6Head s address =
-    cond (ltb (length s) 40) (settled 0 indeterminate)
-    (cond (not (sameOctets (ip6.source s) (octetsAt address 0 16))) (settled 0 unrelated)
-    (cond (eqb (ip6.payloadLength s) 0 || ltb (length s) (ip6.end s)) (settled 0 indeterminate)
-    (onward (ip6.next s 6) 40)))
+ipv6Head s address = tested (ipv6Tests s address) (ip6.next s 6) 40
 
 abbrev pub ipv6Of : List ℕ → ProtectedEndpoint → Answer
 ipv6Of s p = follow stop (ipv6Head s (p .address)) (walkOf s (p .port) (ip6.end s) 4)

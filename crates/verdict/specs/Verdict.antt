@@ -1,6 +1,7 @@
 -- The egress verdict: 01's slots, and the order and tests of lib.rs's `decide_egress`. Assumes nothing.
 use Rattle.octets.specs.Words.{ℕ, Bool, false, cond, not, _&&_, _||_, List, [], _∷_, eqb, leb}
-use Rattle.packet.specs.Answers.{dispositionNumber}
+use Rattle.packet.specs.Reading.{isUnrelated, isIndeterminate}
+use Rattle.packet.specs.Answers.{dispositionOf}
 use Rattle.records.specs.Entry.{closed}
 use Rattle.records.specs.declared.entry.FenceEntry.{FenceEntry}
 use Rattle.verdict.specs.declared.FenceVerdict.{FenceVerdict}
@@ -27,6 +28,11 @@ slotOf DropStaleToken = Slot 7
 abbrev pub slotNumbers : CounterSlot → List ℕ
 slotNumbers Uncounted = []
 slotNumbers (Slot n) = n ∷ []
+
+-- the same as one number: 255, which no verdict's slot has, for none
+abbrev pub slotNumber : CounterSlot → ℕ
+slotNumber Uncounted = 255
+slotNumber (Slot n) = n
 
 -- a packet leaves where it is not counted, and where it is counted as allowed
 abbrev pub dropped : CounterSlot → Bool
@@ -55,10 +61,10 @@ unfoldable pub protectedVerdict : ℕ → FenceAuthoritySnapshot → CounterSlot
 protectedVerdict k a = cond (eqb k 0) (slotOf DropCookieZero) (registeredVerdict k (a .entry) a)
 
 -- `decide_egress`, in lib.rs's order, on entries sound or not: a hook at another place, DropMalformed; of another socket's packet,
--- 1 Unrelated passes and 2 Indeterminate does not; the rest is protected
+-- an Unrelated one passes and an Indeterminate one does not; the rest is protected
 unfoldable pub egressVerdict : PacketFenceContext → FenceAuthoritySnapshot → CounterSlot
 egressVerdict p a =
     cond (not (p .«attachment_identity_valid»)) (slotOf DropMalformed)
-    (cond (not (p .«socket_endpoint_matches») && eqb (dispositionNumber (p .«endpoint_disposition»)) 1) (slotOf PassUnrelated)
-    (cond (not (p .«socket_endpoint_matches») && eqb (dispositionNumber (p .«endpoint_disposition»)) 2) (slotOf DropMalformed)
+    (cond (not (p .«socket_endpoint_matches») && isUnrelated (dispositionOf (p .«endpoint_disposition»))) (slotOf PassUnrelated)
+    (cond (not (p .«socket_endpoint_matches») && isIndeterminate (dispositionOf (p .«endpoint_disposition»))) (slotOf DropMalformed)
     (protectedVerdict (p .«socket_cookie» .0) a)))

@@ -2,6 +2,7 @@
 -- it goes on, the walk is the rest's with one header more. Assumes nothing.
 use Rattle.octets.specs.Words.{ℕ, _<_}
 use Rattle.octets.proofs.Tools.{sym, ap, _∙_, arith, needs}
+use Rattle.packet.specs.Answers.{dispositionNumber}
 use Rattle.packet.proofs.Laws.{walk-stops, walk-on}
 use borrow.Fn.Kinds.{In}
 use borrow.Fn.PlainCycle.{Measures, is, falls, and}
@@ -9,7 +10,7 @@ use Rattle.packet.proofs.walk.Reads as walk
 use Rattle.packet.proofs.walk.Kinds as walk-kinds
 use Rattle.packet.proofs.+walk.Lts-walk as walk-lts
 use Rattle.packet.proofs.take_step.Reads as take-step-reads
-use Rattle.packet.proofs.number.Reads as number-reads
+use Rattle.packet.proofs.PacketEndpointDisposition.number.Reads as number-reads
 use Rattle.packet.proofs.+walk.{statement}
 use Rattle.packet.proofs.+walk.Tie.{close}
 
@@ -53,15 +54,13 @@ pub +walk-spec : {M : Type 1} → statement M
     let step = c .before .before .before .before in
     let over = walk-stops _ _ _ _ _ _ _ _ (step .take-step .ensures) (c .before .before .found .given .1) in
     record {
-      disposition = c .number .ensures .0 ∙ sym (ap (λ r. r .disposition) over);
+      disposition = c .number .ensures ∙ sym (ap (λ r. dispositionNumber (r .disposition)) over);
       headers = omega (arith, ap (λ r. r .headers) over);
-      bound = c .number .ensures .1;
     })
     (λ c.
     let step = c .before .before .before .before .before .before in
     let on = walk-on _ _ _ _ _ _ _ _ _ (step .take-step .ensures) (c .before .before .before .before .found2 .given .1) in
     record {
-      disposition = c .walk .ensures .disposition ∙ sym (ap (λ r. r .disposition) (on .1));
+      disposition = c .walk .ensures .disposition ∙ sym (ap (λ r. dispositionNumber (r .disposition)) (on .1));
       headers = omega (arith, c .walk .ensures .headers, ap (λ r. r .headers) (on .1));
-      bound = c .walk .ensures .bound;
     })

@@ -1,8 +1,8 @@
 -- What the inner functions of `packet` are held to: a header's class by its number, one step of the walk, and a walk that adds the headers
 -- it passes to a count. What a packet means is in `Reading` and does not rest on this. Assumes nothing.
-use Rattle.octets.specs.Words.{ℕ, _+_, _≤_, _≡_}
+use Rattle.octets.specs.Words.{ℕ, _+_, _≡_}
 use Rattle.packet.specs.Reading.{Answer, Outcome, settled, onward}
-use Rattle.packet.specs.Answers.{dispositionNumber}
+use Rattle.packet.specs.Answers.{dispositionOf, dispositionNumber}
 use Rattle.packet.specs.declared.HeaderClass.{HeaderClass}
 use Rattle.packet.specs.declared.HeaderClass.the-variants.{Udp, NotUdp, Options, Authentication, Fragment, Other}
 use Rattle.packet.specs.declared.Step.{Step}
@@ -19,11 +19,10 @@ classNumber Other = 5
 
 -- of a step at the place c
 abbrev pub outcomeOf : ℕ → Step → Outcome
-outcomeOf c (Stop d) = settled c (dispositionNumber d)
+outcomeOf c (Stop d) = settled c (dispositionOf d)
 outcomeOf c (Pass n c′) = onward n c′
 
 -- of a walk that answers the disposition's number d and adds the headers it passes to h, which are h′ then
 pub record Walked (r : Answer) (h d h′ : ℕ) : Type 0 where
-  pub disposition : d ≡ r .disposition
+  pub disposition : d ≡ dispositionNumber (r .disposition)
   pub headers : h′ ≡ h + r .headers
-  pub bound : d ≤ 2
