@@ -5,7 +5,7 @@ use Rattle.octets.specs.Octets.{octetsAt}
 use Rattle.octets.proofs.Tools.{sym, ap, _∙_, true≢false, arith, ne-eqb, eqb-true, eqb-false, not-true}
 use lib.Dec.{lit<}
 use Rattle.codec.specs.Codec.{ok}
-use Rattle.codec.proofs.TestLaws.{and-left, and-right}
+use Rattle.octets.proofs.Choices.{and-left, and-right}
 use Rattle.codec.proofs.CodecLaws.{refl, Lawful, listed, laws}
 use Rattle.records.specs.declared.current.CurrentFenceToken.{CurrentFenceToken}
 use Rattle.records.specs.declared.entry.FenceEntryState.{FenceEntryState}

@@ -1,6 +1,6 @@
 -- `rule`: the tests are the definition's, in its order. Assumes nothing.
 use Rattle.octets.proofs.Tools.{free}
-use Rattle.codec.proofs.TestLaws.{and-true}
+use Rattle.octets.proofs.Choices.{and-true}
 use Rattle.records.proofs.current.rule as the
 
 returns : the.Tie.Need-returns
