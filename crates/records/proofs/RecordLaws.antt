@@ -14,7 +14,7 @@ use Rattle.records.specs.Mutation.{mutationCodec, MutationFormed}
 use Rattle.records.specs.Current.{current, openControl, retiredControl, currentListed, tokenFits, currentControl, currentCodec, CurrentFormed}
 use Rattle.records.specs.Entry.{entry, entryCodec, EntryFormed}
 use Rattle.records.specs.CookieValue.{cookieValue, cookieValueCodec, CookieValueFormed}
-use Rattle.records.specs.Promises.{KeyLaws, MutationLaws, CurrentLaws, EntryLaws, CookieValueLaws}
+use Rattle.records.specs.Promises.{KeyLaws, MutationLaws, CurrentLaws, EntryLaws, CookieValueLaws, TestsInOrder}
 use Rattle.records.proofs.States.{state-back, control-fits, control-back}
 
 -- two numbers at the head of a list, each by an equal one
@@ -113,3 +113,8 @@ cookie-value-lawful = record {
 
 pub cookie-value-laws : CookieValueLaws
 cookie-value-laws = laws cookie-value-lawful
+
+-- ---- the order of the tests
+
+pub tests-in-order : TestsInOrder
+tests-in-order = (refl, (refl, (refl, (refl, refl))))
