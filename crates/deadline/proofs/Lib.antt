@@ -1,2 +1,2 @@
--- What is shown of `deadline` beside the proof of its function. Assumes nothing.
+-- What is shown of `deadline` beside the proofs of its functions. Assumes nothing.
 pub mod Unique

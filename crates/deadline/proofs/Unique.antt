@@ -1,6 +1,8 @@
--- The decision is the contract's alone: the contract gives its number, and no two decisions have one number. Assumes nothing.
+-- The answer of each public function is its contract's alone: of a decision the contract gives the number, and no two decisions have one
+-- number. Assumes nothing.
 use Rattle.octets.specs.Words.{ℕ, _≡_, cond, eqb}
 use Rattle.octets.proofs.Tools.{refl, sym, ap, _∙_}
+use Rattle.octets.proofs.UniqueLaws.{as-told, as-numbered}
 use Rattle.octets.specs.Determined.{Determined}
 use Rattle.deadline.specs.Deadline.{decisionNumber}
 use Rattle.deadline.specs.declared.RefreshDeadlineDecision.{RefreshDeadlineDecision}
@@ -22,4 +24,7 @@ pub decision-injective : (d e : RefreshDeadlineDecision) → decisionNumber d �
 decision-injective d e h = sym (back d) ∙ ap decision h ∙ back e
 
 pub evaluate-refresh-deadlines-determined : Determined the.evaluate_refresh_deadlines.Kinds.ps the.evaluate_refresh_deadlines.Kinds.r the.evaluate_refresh_deadlines.Reads.Learnt
-evaluate-refresh-deadlines-determined κs a x y u v p q = (decision-injective x y (p ∙ sym q), refl)
+evaluate-refresh-deadlines-determined κs a x y u v = as-numbered decisionNumber decision-injective x y
+
+pub number-determined : Determined the.RefreshDeadlineDecision.number.Kinds.ps the.RefreshDeadlineDecision.number.Kinds.r the.RefreshDeadlineDecision.number.Reads.Learnt
+number-determined κs a x y u v = as-told

@@ -1,2 +1,2 @@
--- The definitions that the contract of `deadline` cites. Assumes nothing.
+-- The definitions that the contracts of `deadline` cite. Assumes nothing.
 pub mod Deadline

@@ -17,6 +17,20 @@ pub enum RefreshDeadlineDecision {
     Apply,
 }
 
+impl RefreshDeadlineDecision {
+    // The decision's number, by which programs in other languages know it.
+    pub fn number(self) -> u8
+        ensures { λ r. ⌜ r ≡ decisionNumber self ⌝ }
+    {
+        match self {
+            RefreshDeadlineDecision::PriorExpired => 0,
+            RefreshDeadlineDecision::RequestedDeadlineInvalid => 1,
+            RefreshDeadlineDecision::DeadlineRegressed => 2,
+            RefreshDeadlineDecision::Apply => 3,
+        }
+    }
+}
+
 // The clock is observed after the entry has been closed for the change, so an equal prior deadline has passed.
 pub fn evaluate_refresh_deadlines(
     observed_at: BootNs,

@@ -9,7 +9,8 @@ use Rattle.octets.specs.Lists.{span, inside, bytesAt}
 use Rattle.endpoint.specs.declared.ProtectedEndpoint.{ProtectedEndpoint}
 use Rattle.packet.specs.Rfc791.{version}
 use Rattle.packet.specs.Reading.{Disposition, unrelated, indeterminate, Outcome, settled, onward, follow, entered, sortOf, udpOf, passOf, countedOf, fragmentOf, stepOf, stop, passed, walkOf, ipv4Head, ipv4Of, ipv6Head, ipv6Of, known, classifyOf}
-use Rattle.packet.specs.Places.{udpPlaces, stepPlaces, walkPlaces, ipv4Rest, ipv6Rest, named, places}
+use Rattle.packet.specs.Places.{udpPlaces, stepPlaces, walkPlaces, ipv4Rest, ipv6Rest, named}
+use Rattle.packet.specs.Promises.{Isolation}
 
 module _ (s t : List ℕ) where
   -- s and t have the same bytes at the places l
@@ -129,6 +130,5 @@ module _ (s t : List ℕ) where
       (choice (eqb (version s) 4) _ _ (first .1) (ipv4-same e v p) (λ h′.
       choice (eqb (version s) 6) _ _ h′ (ipv6-same e v p) (λ _. refl))))
 
--- two packets of one length that agree at the first one's places have one answer, the header count with it
-pub isolation : (s t : List ℕ) (p : ProtectedEndpoint) → length s ≡ length t → bytesAt s (places s p) ≡ bytesAt t (places s p) → classifyOf s p ≡ classifyOf t p
+pub isolation : Isolation
 isolation s t p e h = classify-same s t e p (same-inside s t e (named s p) h)

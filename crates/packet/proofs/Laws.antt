@@ -2,15 +2,15 @@
 -- subtraction, and the walk a step at a time. Assumes nothing.
 use Rattle.octets.specs.Words.{ℕ, zero, suc, _+_, _-_, _*_, _<_, _≤_, _≡_, Bool, true, false, cond, not, _&&_, _||_, List, getD, eqb, ltb}
 use Rattle.octets.proofs.Tools.{refl, sym, ap, _∙_, arith, eq-eqb, ne-eqb, lt-ltb, le-ltb, eqb-true, eqb-false, ltb-true, ltb-false}
+use Rattle.octets.proofs.Choices.{cond-all}
 use mathlib.Core.Logic.{_⊎_, inl, inr, ⊎-elim}
 use native.Mathlib.Nat.{eq-or-lt-of-le, zero-add, add-zero, suc-add, mul-le-mul-right}
 use native.Mathlib.Numerals.{sub-one}
-use Rattle.octets.specs.Octets.{Bytes, octetsAt, le, sameOctets}
 use Rattle.packet.specs.declared.PacketEndpointDisposition.{PacketEndpointDisposition}
 use Rattle.packet.specs.declared.Step.{Step}
 use Rattle.packet.specs.declared.Step.the-variants.{Stop, Pass}
 use Rattle.packet.specs.Answers.{dispositionOf, dispositionNumber, dispositionNumbered}
-use Rattle.packet.specs.Steps.{outcomeOf}
+use Rattle.packet.specs.Inner.Steps.{outcomeOf}
 use Rattle.packet.specs.Reading.{Disposition, protected, unrelated, indeterminate, Answer, Outcome, settled, onward, follow, sortOf, byClass, countedOf, fragmentOf, stepOf, stop, passed, walkOf}
 
 -- ---- the sorting, as a `match` with its groups tells it
@@ -60,21 +60,7 @@ entered-room false e n q = ltb-false e n q
 pub product-bound : (u n k : ℕ) → u ≤ 8 → n < 256 → k ≤ 2 → u * (n + k) < 4096
 product-bound u n k a b d = let h : u * (n + k) ≤ 8 * (n + k) = mul-le-mul-right (n + k) a in omega arith
 
--- ---- cases
-
-pub either-way : {A : Type 0} (b : Bool) (x : A) → x ≡ cond b x x
-either-way true x = refl
-either-way false x = refl
-
-pub other-way : {A : Type 0} (b : Bool) (x y : A) → cond b x y ≡ cond (not b || false) y x
-other-way true x y = refl
-other-way false x y = refl
-
 -- ---- the walk, a step at a time
-
-pub cond-all : {A : Type 0} (P : A → Type 0) (b : Bool) {x y : A} → P x → P y → P (cond b x y)
-cond-all P true p q = p
-cond-all P false p q = q
 
 byClass-all : {A : Type 0} (P : A → Type 0) (k : ℕ) {p u o w f x : A} → P p → P u → P o → P w → P f → P x → P (byClass k p u o w f x)
 byClass-all P k pp pu po pw pf px =

@@ -2,7 +2,7 @@
 -- dispositions stand for one, since `dispositionFrom` gives each back. Nor have two dispositions one number. Assumes nothing.
 use Rattle.octets.specs.Words.{_≡_}
 use Rattle.octets.proofs.Tools.{refl, sym, ap, _∙_}
-use Rattle.octets.proofs.UniqueLaws.{as-numbered}
+use Rattle.octets.proofs.UniqueLaws.{as-told, as-numbered}
 use Rattle.octets.specs.Determined.{Determined}
 use Rattle.packet.specs.Reading.{Disposition, protected, unrelated, indeterminate}
 use Rattle.packet.specs.Answers.{dispositionOf, dispositionFrom, dispositionNumber, dispositionNumbered, answerOf}
@@ -32,6 +32,12 @@ pub reading-injective : (x y : PacketReading) → answerOf x ≡ answerOf y → 
 reading-injective x y e =
     let d : x .disposition ≡ y .disposition = disposition-injective (x .disposition) (y .disposition) (ap (λ r. r .disposition) e) in
     λ i. record { disposition = d i; headers = e i .headers }
+
+pub number-determined : Determined the.PacketEndpointDisposition.number.Kinds.ps the.PacketEndpointDisposition.number.Kinds.r the.PacketEndpointDisposition.number.Reads.Learnt
+number-determined κs a x y u v = as-told
+
+pub of-number-determined : Determined the.PacketEndpointDisposition.of_number.Kinds.ps the.PacketEndpointDisposition.of_number.Kinds.r the.PacketEndpointDisposition.of_number.Reads.Learnt
+of-number-determined κs a x y u v = as-numbered dispositionOf disposition-injective x y
 
 pub classify-l3-udp-source-determined : Determined the.classify_l3_udp_source.Kinds.ps the.classify_l3_udp_source.Kinds.r the.classify_l3_udp_source.Reads.Learnt
 classify-l3-udp-source-determined κs a x y u v = as-numbered answerOf reading-injective x y

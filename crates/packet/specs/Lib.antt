@@ -5,5 +5,7 @@ pub mod Rfc8200
 pub mod Rfc4302
 pub mod Reading
 pub mod Answers
-pub mod Steps
 pub mod Places
+pub mod Promises
+pub mod Pinned
+pub mod Inner

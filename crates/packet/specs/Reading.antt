@@ -91,26 +91,42 @@ unfoldable pub walkOf : List ℕ → ℕ → ℕ → ℕ → ℕ → ℕ → Ans
 walkOf s port e zero n c = follow stop (stepOf s port e zero n c) (λ _ c′. stop c′ indeterminate)
 walkOf s port e (suc a) n c = follow stop (stepOf s port e (suc a) n c) (λ n′ c′. passed (walkOf s port e a n′ c′))
 
+-- a test of the fixed header, and what the packet is where it holds
+pub data Test : Type 0 where
+  test : (holds : Bool) (d : Disposition) → Test
+
+-- the first test that holds settles what the packet is; where none does, reading goes on to the header of value n at c
+abbrev pub tested : List Test → ℕ → ℕ → Outcome
+tested [] n c = onward n c
+tested (test b d ∷ ts) n c = cond b (settled 0 d) (tested ts n c)
+
 -- IPv4 (RFC 791), in order; at its end the UDP header stands at h and must end by t
+abbrev pub ipv4Tests : List ℕ → List ℕ → List Test
+ipv4Tests s address =
+    test (ltb (length s) 20) indeterminate ∷
+    test (ltb (ip4.headerLength s) 20) indeterminate ∷
+    test (not (sameOctets (ip4.source s) (octetsAt address 0 4))) unrelated ∷
+    test (ltb (ip4.totalLength s) (ip4.headerLength s)) indeterminate ∷
+    test (ltb (length s) (ip4.totalLength s)) indeterminate ∷
+    test (not (eqb (ip4.protocol s) 17)) unrelated ∷
+    test (not (ip4.whole s)) indeterminate ∷ []
+
 unfoldable pub ipv4Head : List ℕ → List ℕ → Outcome
-ipv4Head s address =
-    cond (ltb (length s) 20 || ltb (ip4.headerLength s) 20) (settled 0 indeterminate)
-    (cond (not (sameOctets (ip4.source s) (octetsAt address 0 4))) (settled 0 unrelated)
-    (cond (ltb (ip4.totalLength s) (ip4.headerLength s) || ltb (length s) (ip4.totalLength s)) (settled 0 indeterminate)
-    (cond (not (eqb (ip4.protocol s) 17)) (settled 0 unrelated)
-    (cond (not (ip4.whole s)) (settled 0 indeterminate)
-    (onward 17 (ip4.headerLength s))))))
+ipv4Head s address = tested (ipv4Tests s address) 17 (ip4.headerLength s)
 
 abbrev pub ipv4Of : List ℕ → ProtectedEndpoint → Answer
 ipv4Of s p = follow stop (ipv4Head s (p .address)) (λ _ h. stop h (udpOf s (p .port) (ip4.totalLength s) h))
 
 -- IPv6 (RFC 8200); the walk begins at 40 with an allowance of 4
+abbrev pub ipv6Tests : List ℕ → List ℕ → List Test
+ipv6Tests s address =
+    test (ltb (length s) 40) indeterminate ∷
+    test (not (sameOctets (ip6.source s) (octetsAt address 0 16))) unrelated ∷
+    test (eqb (ip6.payloadLength s) 0) indeterminate ∷
+    test (ltb (length s) (ip6.end s)) indeterminate ∷ []
+
 unfoldable pub ipv6Head : List ℕ → List ℕ → Outcome
-ipv6Head s address =
-    cond (ltb (length s) 40) (settled 0 indeterminate)
-    (cond (not (sameOctets (ip6.source s) (octetsAt address 0 16))) (settled 0 unrelated)
-    (cond (eqb (ip6.payloadLength s) 0 || ltb (length s) (ip6.end s)) (settled 0 indeterminate)
-    (onward (ip6.next s 6) 40)))
+ipv6Head s address = tested (ipv6Tests s address) (ip6.next s 6) 40
 
 abbrev pub ipv6Of : List ℕ → ProtectedEndpoint → Answer
 ipv6Of s p = follow stop (ipv6Head s (p .address)) (walkOf s (p .port) (ip6.end s) 4)

@@ -8,7 +8,7 @@ ghost use Rattle.octets.specs.Octets.{octetsAt, sameOctets};
 ghost use Rattle.packet.specs.Rfc791.{source as source4};
 ghost use Rattle.packet.specs.Rfc8200.{source as source6, lengthByte};
 ghost use Rattle.packet.specs.Answers.{dispositionOf, dispositionNumber, dispositionNumbered, answerOf};
-ghost use Rattle.packet.specs.Steps.{classNumber, outcomeOf, Walked};
+ghost use Rattle.packet.specs.Inner.Steps.{classNumber, outcomeOf, Walked};
 ghost use Rattle.packet.specs.Reading.{unrelated, indeterminate, stop, sortOf, udpOf, passOf, countedOf, fragmentOf, stepOf, walkOf, ipv4Of, ipv6Of, known, classifyOf};
 
 pub enum PacketEndpointDisposition {
@@ -18,6 +18,30 @@ pub enum PacketEndpointDisposition {
     Unrelated,
     // A packet that is cut or malformed, or whose chain of headers is too long, proves neither.
     Indeterminate,
+}
+
+impl PacketEndpointDisposition {
+    // The disposition's number, by which programs in other languages know it.
+    pub fn number(self) -> u8
+        ensures { λ r. ⌜ r ≡ dispositionNumber (dispositionOf self) ⌝ }
+    {
+        match self {
+            PacketEndpointDisposition::Protected => 0,
+            PacketEndpointDisposition::Unrelated => 1,
+            PacketEndpointDisposition::Indeterminate => 2,
+        }
+    }
+
+    // The disposition that has a number; a number that none has is taken for Indeterminate's.
+    pub fn of_number(number: u8) -> PacketEndpointDisposition
+        ensures { λ r. ⌜ dispositionOf r ≡ dispositionNumbered number ⌝ }
+    {
+        match number {
+            0 => PacketEndpointDisposition::Protected,
+            1 => PacketEndpointDisposition::Unrelated,
+            _ => PacketEndpointDisposition::Indeterminate,
+        }
+    }
 }
 
 // What reading a packet gives: the disposition, and the number of IPv6 extension headers passed on the way.
@@ -182,27 +206,6 @@ fn take_step(packet: &[u8], port: u16, end: usize, allowance: u8, next: u8, at: 
     }
 }
 
-// The dispositions by number, as the walk hands them back.
-fn number(disposition: PacketEndpointDisposition) -> u8
-    ensures { λ r. ⌜ r ≡ dispositionNumber (dispositionOf disposition) ⌝ }
-{
-    match disposition {
-        PacketEndpointDisposition::Protected => 0,
-        PacketEndpointDisposition::Unrelated => 1,
-        PacketEndpointDisposition::Indeterminate => 2,
-    }
-}
-
-fn disposition_of(number: u8) -> PacketEndpointDisposition
-    ensures { λ r. ⌜ dispositionOf r ≡ dispositionNumbered number ⌝ }
-{
-    match number {
-        0 => PacketEndpointDisposition::Protected,
-        1 => PacketEndpointDisposition::Unrelated,
-        _ => PacketEndpointDisposition::Indeterminate,
-    }
-}
-
 // The chain from `at` on: after a header, the rest of it is read with an allowance one smaller. Each header passed is added to
 // `headers`.
 //
@@ -223,7 +226,7 @@ fn walk(
     let whole = *packet;
     let found = take_step(whole, port, end, allowance, next, at);
     match found {
-        Step::Stop(disposition) => number(disposition),
+        Step::Stop(disposition) => disposition.number(),
         Step::Pass { next, at } => {
             *headers = *headers + 1;
             walk(packet, port, end, allowance - 1, next, at, headers)
@@ -317,7 +320,7 @@ fn ipv6(packet: &[u8], endpoint: ProtectedEndpoint) -> PacketReading
         IPV6_HEADER_LEN,
         &mut headers,
     );
-    let disposition = disposition_of(answer);
+    let disposition = PacketEndpointDisposition::of_number(answer);
     PacketReading {
         disposition,
         headers,

@@ -1,2 +1,3 @@
--- The laws of `verdict`: the answer of each public function is its contract's alone. Assumes nothing.
+-- The laws of `verdict`: no two verdicts share a slot, and the answer of each public function is its contract's alone. Assumes nothing.
+pub mod Laws
 pub mod Unique

@@ -29,6 +29,11 @@ abbrev pub slotNumbers : CounterSlot → List ℕ
 slotNumbers Uncounted = []
 slotNumbers (Slot n) = n ∷ []
 
+-- the same as one number: 255, which no verdict's slot has, for none
+abbrev pub slotNumber : CounterSlot → ℕ
+slotNumber Uncounted = 255
+slotNumber (Slot n) = n
+
 -- a packet leaves where it is not counted, and where it is counted as allowed
 abbrev pub dropped : CounterSlot → Bool
 dropped Uncounted = false

@@ -6,7 +6,7 @@ use units::BootNs;
 use units::DurableFenceToken;
 use units::SocketCookie;
 ghost use Rattle.octets.specs.Words.{_≡_, Bool};
-ghost use Rattle.verdict.specs.Verdict.{slotOf, slotNumbers, dropped, staleAuthority, entryVerdict, protectedVerdict, egressVerdict};
+ghost use Rattle.verdict.specs.Verdict.{slotOf, slotNumbers, slotNumber, dropped, staleAuthority, entryVerdict, protectedVerdict, egressVerdict};
 
 // The slots of the counter map, which has eight; slot 1 is reserved.
 pub const COUNTER_ALLOWED: u32 = 0;
@@ -65,6 +65,17 @@ impl FenceVerdict {
             FenceVerdict::DropExpired => CounterSlot::Slot(COUNTER_EXPIRED),
             FenceVerdict::DropStaleToken => CounterSlot::Slot(COUNTER_STALE_TOKEN),
             FenceVerdict::DropMalformed => CounterSlot::Slot(COUNTER_MALFORMED),
+        }
+    }
+
+    // The number of that slot, by which programs in other languages know the verdict; 255 where it is not counted.
+    pub fn slot_number(self) -> u8
+        ensures { λ r. ⌜ r ≡ slotNumber (slotOf self) ⌝ }
+    {
+        let slot = self.counter_slot();
+        match slot {
+            CounterSlot::Uncounted => 255,
+            CounterSlot::Slot(number) => number as u8,
         }
     }
 

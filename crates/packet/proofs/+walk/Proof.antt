@@ -10,7 +10,7 @@ use Rattle.packet.proofs.walk.Reads as walk
 use Rattle.packet.proofs.walk.Kinds as walk-kinds
 use Rattle.packet.proofs.+walk.Lts-walk as walk-lts
 use Rattle.packet.proofs.take_step.Reads as take-step-reads
-use Rattle.packet.proofs.number.Reads as number-reads
+use Rattle.packet.proofs.PacketEndpointDisposition.number.Reads as number-reads
 use Rattle.packet.proofs.+walk.{statement}
 use Rattle.packet.proofs.+walk.Tie.{close}
 

@@ -1,111 +1,100 @@
--- `ipv4`: on each way to an answer the tests taken and left are the definition's, in the definition's order, on the fields that
--- the readers give. Assumes nothing.
-use Rattle.octets.proofs.Tools.{ap, _∙_, needs, eq-eqb, ne-eqb, lt-ltb, le-ltb}
-use Rattle.packet.specs.Reading.{ipv4Head, stop}
+-- `ipv4`: each test of the code is the definition's next one. `left` and a number say that the head is what is left after so many tests, on
+-- the way past the last of them; there the next test is passed over, or it settles the answer. Assumes nothing.
+use Rattle.octets.specs.Words.{ℕ, _≡_, drop}
+use Rattle.octets.proofs.Tools.{ap, _∙_, needs, free, eq-eqb, ne-eqb, lt-ltb, le-ltb}
+use Rattle.packet.specs.Rfc791.{headerLength}
+use Rattle.packet.specs.Reading.{tested, ipv4Tests, ipv4Head, stop}
 use Rattle.packet.proofs.ipv4.Statement.{statement}
 use Rattle.packet.proofs.ipv4.Tie as tie
 
+abbrev Left : ℕ → tie.Start → Type 0
+Left k a =
+    ipv4Head (a .args .packet .now) (a .args .t2 .address) ≡
+    tested (drop k (ipv4Tests (a .args .packet .now) (a .args .t2 .address))) 17 (headerLength (a .args .packet .now))
+
+-- ---- the way past each test, to the one before
+
+abbrev past2 : tie.Else2 → tie.Else1
+past2 a = a .before .before
+
+abbrev past3 : tie.Else3 → tie.Else2
+past3 a = a .before .before .before .before .before
+
+abbrev past4 : tie.Else4 → tie.Else3
+past4 a = a .before .before
+
+abbrev past6 : tie.Else6 → tie.Else5
+past6 a = a .before .before
+
+abbrev past7 : tie.Else7 → tie.Else6
+past7 a = a .before .before
+
+-- ---- what is left there
+
+left1 : (a : tie.Else1) → Left 1 (a .before .before)
+unfolding ipv4Head
+left1 a = simp (le-ltb _ _ (a .if1 .left))
+
+left2 : (a : tie.Else2) → Left 2 (past2 a .before .before)
+left2 a = left1 (past2 a) ∙ simp (← a .before .get-u8 .ensures, le-ltb _ _ (a .if2 .left))
+
+left3 : (a : tie.Else3) → Left 3 (past2 (past3 a) .before .before)
+left3 a = left2 (past3 a) ∙ simp (← a .before .same-ipv4 .ensures, a .if3 .left)
+
+left4 : (a : tie.Else4) → Left 4 (past2 (past3 (past4 a)) .before .before)
+left4 a = left3 (past4 a) ∙ simp (← past3 (past4 a) .before .get-u8 .ensures, ← a .before .get-u16-be .ensures, le-ltb _ _ (a .if4 .left))
+
+left5 : (a : tie.Else5) → Left 5 (past2 (past3 (past4 (a .before))) .before .before)
+left5 a = left4 (a .before) ∙ simp (← a .before .before .get-u16-be .ensures, le-ltb _ _ (a .if5 .left))
+
+left6 : (a : tie.Else6) → Left 6 (past2 (past3 (past4 (past6 a .before))) .before .before)
+left6 a = left5 (past6 a) ∙ simp (← a .before .get-u82 .ensures, eq-eqb _ _ (a .if6 .left))
+
+left7 : (a : tie.Else7) → Left 7 (past2 (past3 (past4 (past6 (past7 a) .before))) .before .before)
+left7 a = left6 (past7 a) ∙ simp (← a .before .get-u16-be2 .ensures, eq-eqb _ _ (a .if7 .left))
+
+-- ---- the answers
+
 returns : tie.Need-returns
 unfolding ipv4Head
-returns c =
-    let length = c .before in
-    simp (lt-ltb _ _ (length .if1 .taken)) (c .stopped .ensures)
+returns c = simp (lt-ltb _ _ (c .before .if1 .taken)) (c .stopped .ensures)
 
 returns-2 : tie.Need-returns-2
-unfolding ipv4Head
 returns-2 c =
-    let size = c .before in
-    let length = size .before .before in
-    simp (le-ltb _ _ (length .if1 .left), ← size .before .get-u8 .ensures, lt-ltb _ _ (size .if2 .taken)) (c .stopped2 .ensures)
+    let a = c .before in
+    simp (left1 (a .before .before), ← a .before .get-u8 .ensures, lt-ltb _ _ (a .if2 .taken)) (c .stopped2 .ensures)
 
 returns-3 : tie.Need-returns-3
-unfolding ipv4Head
 returns-3 c =
-    let source = c .before in
-    let size = source .before .before .before .before .before in
-    let length = size .before .before in
-    simp (le-ltb _ _ (length .if1 .left), ← size .before .get-u8 .ensures, le-ltb _ _ (size .if2 .left), ← source .before .same-ipv4 .ensures, source .if3 .taken) (c .stopped3 .ensures)
+    let a = c .before in
+    simp (left2 (a .before .before .before .before .before), ← a .before .same-ipv4 .ensures, a .if3 .taken) (c .stopped3 .ensures)
 
 returns-4 : tie.Need-returns-4
-unfolding ipv4Head
 returns-4 c =
-    let total = c .before in
-    let source = total .before .before in
-    let size = source .before .before .before .before .before in
-    let length = size .before .before in
-    simp (le-ltb _ _ (length .if1 .left), ← size .before .get-u8 .ensures, le-ltb _ _ (size .if2 .left), ← source .before .same-ipv4 .ensures, source .if3 .left, ← total .before .get-u16-be .ensures, lt-ltb _ _ (total .if4 .taken)) (c .stopped4 .ensures)
+    let a = c .before in
+    let b = a .before .before in
+    simp (left3 b, ← past3 b .before .get-u8 .ensures, ← a .before .get-u16-be .ensures, lt-ltb _ _ (a .if4 .taken)) (c .stopped4 .ensures)
 
 returns-5 : tie.Need-returns-5
-unfolding ipv4Head
 returns-5 c =
-    let room = c .before in
-    let total = room .before in
-    let source = total .before .before in
-    let size = source .before .before .before .before .before in
-    let length = size .before .before in
-    simp (le-ltb _ _ (length .if1 .left), ← size .before .get-u8 .ensures, le-ltb _ _ (size .if2 .left), ← source .before .same-ipv4 .ensures, source .if3 .left, ← total .before .get-u16-be .ensures, le-ltb _ _ (total .if4 .left), lt-ltb _ _ (room .if5 .taken)) (c .stopped5 .ensures)
+    let a = c .before in
+    simp (left4 (a .before), ← a .before .before .get-u16-be .ensures, lt-ltb _ _ (a .if5 .taken)) (c .stopped5 .ensures)
 
 returns-6 : tie.Need-returns-6
-unfolding ipv4Head
 returns-6 c =
-    let protocol = c .before in
-    let room = protocol .before .before in
-    let total = room .before in
-    let source = total .before .before in
-    let size = source .before .before .before .before .before in
-    let length = size .before .before in
-    simp (le-ltb _ _ (length .if1 .left), ← size .before .get-u8 .ensures, le-ltb _ _ (size .if2 .left), ← source .before .same-ipv4 .ensures, source .if3 .left, ← total .before .get-u16-be .ensures, le-ltb _ _ (total .if4 .left), le-ltb _ _ (room .if5 .left), ← protocol .before .get-u82 .ensures, ne-eqb _ _ (protocol .if6 .taken)) (c .stopped6 .ensures)
+    let a = c .before in
+    simp (left5 (a .before .before), ← a .before .get-u82 .ensures, ne-eqb _ _ (a .if6 .taken)) (c .stopped6 .ensures)
 
 returns-7 : tie.Need-returns-7
-unfolding ipv4Head
 returns-7 c =
-    let fragment = c .before in
-    let protocol = fragment .before .before in
-    let room = protocol .before .before in
-    let total = room .before in
-    let source = total .before .before in
-    let size = source .before .before .before .before .before in
-    let length = size .before .before in
-    simp (le-ltb _ _ (length .if1 .left), ← size .before .get-u8 .ensures, le-ltb _ _ (size .if2 .left), ← source .before .same-ipv4 .ensures, source .if3 .left, ← total .before .get-u16-be .ensures, le-ltb _ _ (total .if4 .left), le-ltb _ _ (room .if5 .left), ← protocol .before .get-u82 .ensures, eq-eqb _ _ (protocol .if6 .left), ← fragment .before .get-u16-be2 .ensures, ne-eqb _ _ (fragment .if7 .taken)) (c .stopped7 .ensures)
+    let a = c .before in
+    simp (left6 (a .before .before), ← a .before .get-u16-be2 .ensures, ne-eqb _ _ (a .if7 .taken)) (c .stopped7 .ensures)
 
 returns-8 : tie.Need-returns-8
-unfolding ipv4Head
 returns-8 c =
-    let fragment = c .before .before in
-    let protocol = fragment .before .before in
-    let room = protocol .before .before in
-    let total = room .before in
-    let source = total .before .before in
-    let size = source .before .before .before .before .before in
-    let length = size .before .before in
-    simp (le-ltb _ _ (length .if1 .left), ← size .before .get-u8 .ensures, le-ltb _ _ (size .if2 .left), ← source .before .same-ipv4 .ensures, source .if3 .left, ← total .before .get-u16-be .ensures, le-ltb _ _ (total .if4 .left), le-ltb _ _ (room .if5 .left), ← protocol .before .get-u82 .ensures, eq-eqb _ _ (protocol .if6 .left), ← fragment .before .get-u16-be2 .ensures, eq-eqb _ _ (fragment .if7 .left)) (c .stopped8 .ensures ∙ ap (stop 0) (c .before .udp .ensures))
+    let a = c .before .before in
+    let b = past6 (past7 a) .before in
+    simp (left7 a, ← past3 (past4 b) .before .get-u8 .ensures, ← b .before .get-u16-be .ensures) (c .stopped8 .ensures ∙ ap (stop 0) (c .before .udp .ensures))
 
 pub ipv4-spec : {M : Type 1} → statement M
-ipv4-spec =
-    tie.close
-    (tie.spec
-    (λ c κs. search needs)
-    returns
-    (λ c κs. search needs)
-    (λ c. search needs)
-    (λ c. search needs)
-    (λ c κs. search needs)
-    returns-2
-    (λ c κs. search needs)
-    (λ c κs. search needs)
-    returns-3
-    (λ c κs. search needs)
-    (λ c. search needs)
-    (λ c κs. search needs)
-    returns-4
-    (λ c κs. search needs)
-    returns-5
-    (λ c κs. search needs)
-    (λ c κs. search needs)
-    returns-6
-    (λ c κs. search needs)
-    (λ c κs. search needs)
-    returns-7
-    (λ c κs. search needs)
-    (λ c κs. search needs)
-    returns-8)
+ipv4-spec = tie.close (tie.spec free returns free (λ c. search needs) (λ c. search needs) free returns-2 free free returns-3 free (λ c. search needs) free returns-4 free returns-5 free free returns-6 free free returns-7 free free returns-8)

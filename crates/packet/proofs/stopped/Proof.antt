@@ -3,8 +3,5 @@ use Rattle.octets.proofs.Tools.{refl}
 use Rattle.packet.proofs.stopped.Statement.{statement}
 use Rattle.packet.proofs.stopped.Tie as tie
 
-returns : tie.Need-returns
-returns c = refl
-
 pub stopped-spec : {M : Type 1} → statement M
-stopped-spec = tie.close (tie.spec returns)
+stopped-spec = tie.close (tie.spec (λ c. refl))
