@@ -7,7 +7,7 @@ use Rattle.endpoint.specs.declared.ProtectedEndpoint.{ProtectedEndpoint}
 use Rattle.config.specs.Config.{configCodec}
 use Rattle.records.specs.Current.{currentCodec}
 use Rattle.packet.specs.Reading.{classifyOf}
-use Rattle.packet.proofs.Laws.{cond-all}
+use Rattle.octets.proofs.Choices.{cond-all}
 use Rattle.gate.specs.declared.Socket.{Socket}
 use Rattle.gate.specs.Table.{records, under, firstOf}
 use Rattle.gate.specs.Gate.{Call, decodes, matches, root, differs, reading, token, unread, View, viewOf, Rule, allow, rules, firstRule}

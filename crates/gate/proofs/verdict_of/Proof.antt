@@ -1,7 +1,7 @@
 -- `verdict_of`: the rule of that number has that verdict; every other rule drops a packet as malformed. Assumes nothing.
 use Rattle.octets.specs.Words.{ℕ, _≡_, eqb}
 use Rattle.octets.proofs.Tools.{refl, ne-eqb}
-use Rattle.packet.proofs.Laws.{cond-all}
+use Rattle.octets.proofs.Choices.{cond-all}
 use Rattle.verdict.specs.declared.FenceVerdict.the-variants.{DropMalformed}
 use Rattle.gate.specs.Gate.{Rule, rules}
 use Rattle.gate.proofs.verdict_of.Statement.{statement}
