@@ -8,10 +8,13 @@ use Rattle.config.specs.Config.{configCodec}
 use Rattle.records.specs.Current.{currentCodec}
 use Rattle.packet.specs.Reading.{classifyOf}
 use Rattle.octets.proofs.Choices.{cond-all}
+use Rattle.verdict.specs.Verdict.{slotOf}
+use Rattle.verdict.specs.declared.FenceVerdict.{FenceVerdict}
 use Rattle.gate.specs.declared.Socket.{Socket}
+use Rattle.gate.specs.declared.Ruling.{Ruling}
 use Rattle.gate.specs.Table.{records, under, firstOf}
-use Rattle.gate.specs.Gate.{Call, decodes, matches, root, differs, reading, token, unread, View, viewOf, Rule, allow, rules, firstRule}
-use Rattle.gate.specs.Inner.Steps.{sourceOf, soughtRecord, from, numbered, registration}
+use Rattle.gate.specs.Gate.{Call, decodes, matches, root, differs, reading, token, unread, View, viewOf, Rule, allow, rules, firstRule, answering, headersOf, gateOf, answerOf}
+use Rattle.gate.specs.Inner.Steps.{sourceOf, soughtRecord, from, numbered, registration, Ruled}
 use Rattle.gate.proofs.TableLaws.{first-found, held, first-held}
 
 -- ---- the list
@@ -43,6 +46,14 @@ same-first f g (r ∷ rs) v e a =
 pub of-number : (v : View) → numbered (firstRule rules v .number) rules .verdict ≡ firstRule rules v .verdict
 unfolding rules
 of-number v = same-first (λ r. numbered (r .number) rules .verdict) (λ r. r .verdict) rules v refl refl
+
+-- so the answer is made of its number and of the reading
+pub answered : (c : Call) (r : Ruling) (x : FenceVerdict) → x ≡ numbered (r .rule) rules .verdict → Ruled c r →
+    answerOf (record { verdict = x; headers = r .reading .headers }) ≡ gateOf c
+unfolding answering headersOf gateOf
+answered c r x p q =
+    let verdict : x ≡ firstRule rules (viewOf c) .verdict = p ∙ ap (λ n. numbered n rules .verdict) (q .number) ∙ of-number (viewOf c) in
+    λ i. record { slot = slotOf (verdict i); headers = q .reading i .headers }
 
 -- ---- the tests
 

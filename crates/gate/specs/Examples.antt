@@ -7,23 +7,15 @@ use Rattle.config.specs.Config.{config, configCodec}
 use Rattle.records.specs.Current.{current, currentCodec}
 use Rattle.records.specs.CookieValue.{cookieValue, cookieValueCodec}
 use Rattle.records.specs.declared.entry.FenceEntryState.the-variants.{Active, TerminalClosed}
+use Rattle.packet.specs.Pinned.{endpoint4, packetA as A}
 use Rattle.verdict.specs.declared.CounterSlot.the-variants.{Slot}
 use Rattle.gate.specs.declared.Socket.{Socket}
 use Rattle.gate.specs.Gate.{Call, given, answering, headersOf, Answer, gateOf}
 use Rattle.gate.specs.Isolation.{Alike}
 
--- 192.0.2.10:4500, and 01's packet A from there
-unfoldable pub endpoint4500 : ProtectedEndpoint
-endpoint4500 = record { family = 4; address = 192 ∷ 0 ∷ 2 ∷ 10 ∷ replicate 12 0; port = 4500 }
-
-unfoldable pub A : List ℕ
-A =
-    0x45 ∷ 0x00 ∷ 0x00 ∷ 0x1c ∷ 0x00 ∷ 0x00 ∷ 0x00 ∷ 0x00 ∷ 0x40 ∷ 0x11 ∷ 0x00 ∷ 0x00 ∷ 0xc0 ∷ 0x00 ∷ 0x02 ∷ 0x0a ∷
-    0xc6 ∷ 0x33 ∷ 0x64 ∷ 0x01 ∷ 0x11 ∷ 0x94 ∷ 0x00 ∷ 0x35 ∷ 0x00 ∷ 0x08 ∷ 0x00 ∷ 0x00 ∷ []
-
 -- 01's configuration with root 7, current record with token 3 and cookie 9, and record of cookie 9 and token 3 until 1000
 unfoldable pub configured : List ℕ
-configured = bytes configCodec (config endpoint4500 7 4096)
+configured = bytes configCodec (config endpoint4 7 4096)
 
 unfoldable pub open9 : List ℕ
 open9 = bytes currentCodec (current 3 9 false)
