@@ -27,19 +27,8 @@ edges-hold = refl
 
 pub alike : SomeAreAlike
 unfolding here there active8 A configured open9 active9 unbound octetsAt le be leBytes beBytes allZero sameOctets decodeNumber decodeValue usableIpv4 soundEndpoint frameRule currentRule bytesAt inside udpPlaces named ipv4Head admissible recordsIn records isUnder under firstOf
-alike = record {
-  config = refl;
-  attachment = refl;
-  socket = refl;
-  cookie = refl;
-  current = refl;
-  time = refl;
-  long = refl;
-  agree = refl;
-  first-table = refl;
-  second-table = refl;
-  found = refl;
-}
+alike =
+    record { config = refl; attachment = refl; socket = refl; cookie = refl; current = refl; time = refl; long = refl; agree = refl; first-table = refl; second-table = refl; found = refl }
 
 pub drops-all-is-isolated : DropsAllIsIsolated
 unfolding dropsAll

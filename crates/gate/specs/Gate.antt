@@ -34,16 +34,7 @@ pub record Call : Type 0 where
 
 -- the same, as the functions are handed it
 abbrev pub given : List ℕ → ℕ → Socket → List ℕ → ℕ → List ℕ → List ℕ → ℕ → Call
-given config attachment socket packet cookie current table time = record {
-  config = config;
-  attachment = attachment;
-  socket = socket;
-  packet = packet;
-  cookie = cookie;
-  current = current;
-  table = table;
-  time = time;
-}
+given g n s p k u t b = record { config = g; attachment = n; socket = s; packet = p; cookie = k; current = u; table = t; time = b }
 
 -- a record's bytes decode
 abbrev pub decodes : {R : Type 0} → Codec R → List ℕ → Bool

@@ -38,21 +38,5 @@ returns-3 c =
 pub find-record-spec : {M : Type 1} → statement M
 find-record-spec =
     tie.close
-    (tie.spec
-    Inv-loop
-    μ-loop
-    (λ c. search needs)
-    returns
-    (λ c. search needs)
-    (λ c. (search needs, refl))
-    (λ c. search needs)
-    (λ c. search needs)
-    (λ c. search needs)
-    (λ c. search needs)
-    (λ c κs. search needs)
-    returns-2
-    (λ c. search needs)
-    (λ c. search needs)
-    loop-again
-    (λ c. search needs)
-    returns-3)
+    (tie.spec Inv-loop μ-loop (λ c. search needs) returns (λ c. search needs) (λ c. (search needs, refl)) (λ c. search needs) (λ c. search needs) (λ c. search needs) (λ c. search needs)
+    free returns-2 (λ c. search needs) (λ c. search needs) loop-again (λ c. search needs) returns-3)
