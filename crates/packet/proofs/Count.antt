@@ -1,6 +1,6 @@
 -- The count: a walk passes at most as many headers as its allowance has, by induction on the allowance; what stops before it has passed
 -- none. Assumes nothing.
-use Rattle.octets.specs.Words.{ℕ, zero, suc, _≤_, _≡_, not, _||_, List, length, eqb}
+use Rattle.octets.specs.Words.{ℕ, zero, suc, _≤_, not, _||_, List, length, eqb}
 use Rattle.octets.proofs.Tools.{refl, arith}
 use Rattle.octets.proofs.Choices.{cond-all}
 use Rattle.endpoint.specs.declared.ProtectedEndpoint.{ProtectedEndpoint}

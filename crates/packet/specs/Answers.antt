@@ -1,7 +1,7 @@
 -- What the answer's types stand for: a disposition as the definitions have it, its number, and the answer of the definitions. Assumes
 -- nothing.
 use Rattle.octets.specs.Words.{ℕ, cond, eqb}
-use Rattle.packet.specs.Reading.{Disposition, protected, unrelated, indeterminate, Answer}
+use Rattle.packet.specs.Reading.{Disposition, protected, unrelated, indeterminate, byDisposition, Answer}
 use Rattle.packet.specs.declared.PacketEndpointDisposition.{PacketEndpointDisposition}
 use Rattle.packet.specs.declared.PacketEndpointDisposition.the-variants.{Protected, Unrelated, Indeterminate}
 use Rattle.packet.specs.declared.PacketReading.{PacketReading}
@@ -13,15 +13,11 @@ dispositionOf Indeterminate = indeterminate
 
 -- and back
 abbrev pub dispositionFrom : Disposition → PacketEndpointDisposition
-dispositionFrom protected = Protected
-dispositionFrom unrelated = Unrelated
-dispositionFrom indeterminate = Indeterminate
+dispositionFrom d = byDisposition d Protected Unrelated Indeterminate
 
 -- the dispositions by number: 01 gives none, so they are counted from 0 in the order of packet.rs
 abbrev pub dispositionNumber : Disposition → ℕ
-dispositionNumber protected = 0
-dispositionNumber unrelated = 1
-dispositionNumber indeterminate = 2
+dispositionNumber d = byDisposition d 0 1 2
 
 -- the disposition of a number
 abbrev pub dispositionNumbered : ℕ → Disposition

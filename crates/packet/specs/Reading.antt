@@ -14,15 +14,16 @@ pub data Disposition : Type 0 where
   unrelated : Disposition
   indeterminate : Disposition
 
+abbrev pub byDisposition : {A : Type 0} → Disposition → A → A → A → A
+byDisposition protected p u i = p
+byDisposition unrelated p u i = u
+byDisposition indeterminate p u i = i
+
 abbrev pub isUnrelated : Disposition → Bool
-isUnrelated protected = false
-isUnrelated unrelated = true
-isUnrelated indeterminate = false
+isUnrelated d = byDisposition d false true false
 
 abbrev pub isIndeterminate : Disposition → Bool
-isIndeterminate protected = false
-isIndeterminate unrelated = false
-isIndeterminate indeterminate = true
+isIndeterminate d = byDisposition d false false true
 
 -- an answer: the disposition, and the number of extension headers passed
 pub record Answer : Type 0 where
