@@ -1,8 +1,8 @@
 -- No listing is longer than 273,060 bytes. Each packet frame takes six bytes of the bundle or more, so there are at most 10,922 of them; a
 -- line has at most 25 bytes, since an ordinal has at most five digits, a name at most fourteen letters, and the header count, at most
 -- four, and the slot one digit each; the last line has at most ten. Assumes nothing.
-use Rattle.octets.specs.Words.{ℕ, zero, suc, _+_, _*_, _-_, _/_, _%_, _^_, _<_, _≤_, _≡_, Bool, true, false, _&&_, List, [], _∷_, _++_, length, eqb, ltb, leb}
-use Rattle.octets.proofs.Tools.{refl, arith, le-leb, lt-ltb, ltb-false, leb-true, leb-false}
+use Rattle.octets.specs.Words.{ℕ, _+_, _*_, _<_, _≤_, _≡_, Bool, true, false, _&&_, List, [], _∷_, length, eqb, ltb, leb}
+use Rattle.octets.proofs.Tools.{refl, arith, le-leb, ltb-false, leb-true, leb-false}
 use lib.ListN.{length-append}
 use Rattle.text.specs.Text.{ascii, decimalIn, decimal}
 use Rattle.text.proofs.Choices.{pick}

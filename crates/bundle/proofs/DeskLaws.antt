@@ -9,7 +9,7 @@ use Rattle.octets.specs.Octets.{octetsAt, put}
 use Rattle.octets.proofs.OctetsLaws.{length-octets, put-in, length-put}
 use Rattle.text.specs.Text.{lastPlace, after, Wrote}
 use Rattle.text.proofs.TextLaws.{after-in}
-use Rattle.bundle.specs.Feed.{Feed, skip, emit, onward, run, Next, called, over}
+use Rattle.bundle.specs.Feed.{Feed, skip, onward, run, Next, called, over}
 use Rattle.bundle.specs.Frames.{bodyAt, past, frameAt, initial, callOf, stepOf, frameStep, leftAt, feedAt, bundleOf}
 use Rattle.bundle.specs.Inner.Steps.{frameIs, held, stateOf, Desk, placeOf, deskStep, readStep, deskLeft, nextAt}
 use Rattle.bundle.specs.Kinds.{Frame}

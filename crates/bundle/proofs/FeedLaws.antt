@@ -4,7 +4,7 @@
 use Rattle.octets.specs.Words.{ℕ, zero, suc, _<_, _≡_}
 use Rattle.octets.proofs.Tools.{refl, sym, ap, _∙_, arith}
 use Rattle.gate.specs.Gate.{Call}
-use Rattle.bundle.specs.Feed.{Ending, ended, Feed, Step, stop, skip, emit, onward, readIn, read, noCall, callThen, run, Next, called, over, nextOf, beginning, Less, Falls, FeedByNext}
+use Rattle.bundle.specs.Feed.{Ending, ended, Feed, Step, stop, skip, emit, onward, readIn, read, noCall, callThen, run, called, over, nextOf, beginning, Less, Falls, FeedByNext}
 
 -- ---- one step, and then the rest
 

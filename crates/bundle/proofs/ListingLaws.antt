@@ -12,9 +12,9 @@ use Rattle.verdict.proofs.Unique.{slot-injective}
 use Rattle.gate.specs.Gate.{Call, answering, gateOf}
 use Rattle.gate.specs.Gate as gate
 use Rattle.gate.specs.declared.GateAnswer.{GateAnswer}
-use Rattle.bundle.specs.Feed.{Feed, ended, bad, beginning}
+use Rattle.bundle.specs.Feed.{Feed, beginning}
 use Rattle.bundle.specs.Frames.{State, callOf, bundleOf}
-use Rattle.bundle.specs.Listing.{Line, line, lastLine, linesBy, sheet, verdictLine, listing, answerOf, outputOf, Lists}
+use Rattle.bundle.specs.Listing.{Line, line, linesBy, sheet, verdictLine, listing, answerOf, outputOf, Lists}
 use Rattle.bundle.specs.Inner.Steps.{stateOf, readStep, deskLeft, nextAt, nextIs}
 use Rattle.bundle.specs.declared.frames.Cursor.{Cursor}
 use Rattle.bundle.specs.declared.frames.Next.{Next as Told}

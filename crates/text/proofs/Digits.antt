@@ -1,7 +1,7 @@
 -- The digits of a number are those that a division by ten after the other gives, the last digit first; they are as many as the powers of
 -- ten that the number reaches, and spell it. Each by induction on the digits. Assumes nothing.
 use Rattle.octets.specs.Words.{ℕ, zero, suc, _+_, _-_, _*_, _/_, _%_, _^_, _<_, _≤_, _≡_, Bool, true, false, cond, List, [], _∷_, _++_, length, take, drop, set, ltb}
-use Rattle.octets.proofs.Tools.{sym, ap, _∙_, refl, arith, lt-ltb, le-ltb}
+use Rattle.octets.proofs.Tools.{sym, _∙_, refl, arith, lt-ltb, le-ltb}
 use mathlib.Core.List.{append-nil}
 use lib.ListN.{length-append, length-set, length-drop, drop-of-length-le}
 use lib.Seq.{take-all, drop-set-lt, drop-cons, getD-set-same, append-snoc}

@@ -1,8 +1,8 @@
 -- The laws of places. The place after two texts is the one after the second, from the one after the first on: as long as there is such a
 -- place both are sums, and after the last place nothing lies in a buffer. So texts written one after the other are the text joined.
 -- Assumes nothing.
-use Rattle.octets.specs.Words.{ℕ, suc, _+_, _<_, _≤_, _≡_, Bool, true, false, List, [], _∷_, _++_, length, getD, take, drop, set, ltb}
-use Rattle.octets.proofs.Tools.{refl, sym, ap, _∙_, arith, lt-ltb, le-ltb, ltb-true, ltb-false}
+use Rattle.octets.specs.Words.{ℕ, suc, _+_, _-_, _<_, _≤_, _≡_, Bool, true, false, List, [], _∷_, _++_, length, getD, take, drop, set, ltb}
+use Rattle.octets.proofs.Tools.{refl, sym, ap, _∙_, arith, le-ltb, ltb-true, ltb-false}
 use mathlib.Core.List.{append-assoc}
 use lib.ListN.{length-append}
 use lib.Seq.{take-suc, take-suc-set, take-all, drop-drop}
@@ -67,13 +67,22 @@ byte d at v h = record { bytes = refl; past = sym (after-in at 1 (omega arith)) 
 pub byte-past : (d : List ℕ) (at v : ℕ) {r : ℕ} → length d ≤ at → r ≡ after at 1 → Wrote d at (v ∷ []) d r
 byte-past d at v h e = record { bytes = sym (put-past d at (v ∷ []) h); past = e }
 
+-- a place before the last is a sum
+pub after-sum : (at n : ℕ) {r m : ℕ} → r ≡ after at n → r < m → m ≤ lastPlace → r ≡ at + n
+after-sum at n {r} {m} e h l = by (ltb lastPlace (at + n)) refl
+  where
+    by : (t : Bool) → ltb lastPlace (at + n) ≡ t → r ≡ at + n
+    by true f = let last : after at n ≡ lastPlace = after-out at n (omega (arith, ltb-true lastPlace (at + n) f)) in absurd (omega arith)
+    by false f = e ∙ after-in at n (ltb-false lastPlace (at + n) f)
+
 -- a part of the buffer that is filled with the text
-pub filled : {d text : List ℕ} (at k : ℕ) {x : List ℕ} → length d ≤ lastPlace → at + length text ≤ length d → k ≡ length text → x ≡ text →
-    Wrote d at text (take at d ++ (x ++ drop k (drop at d))) (at + length text)
-filled {d} {text} at k l h e f =
+pub filled : {d text : List ℕ} (at : ℕ) {r : ℕ} {x : List ℕ} → length d ≤ lastPlace → r ≤ length d → r ≡ at + length text → x ≡ text →
+    Wrote d at text (take at d ++ (x ++ drop (r - at) (drop at d))) r
+filled {d} {text} at {r} l h e f =
+    let wide : r - at ≡ length text = omega arith in
     record {
-      bytes = rw (f, e, drop-drop (length text) at d, ← append-assoc (take at d) text (drop (at + length text) d)) (sym (put-in d at text h));
-      past = sym (after-in at (length text) (omega arith));
+      bytes = rw (f, wide, drop-drop (length text) at d, ← append-assoc (take at d) text (drop (at + length text) d)) (sym (put-in d at text (omega arith)));
+      past = e ∙ sym (after-in at (length text) (omega arith));
     }
 
 -- ---- copying, byte by byte

@@ -1,6 +1,6 @@
 // Text written at a place of a lent buffer. Every function is total: what would lie past the end is dropped, and the place after it is
 // counted all the same, so the same functions write a text and measure it. Each answers the place after what it wrote.
-ghost use Rattle.octets.specs.Words.{_≤_, _≡_, [], _∷_, _++_, length, drop};
+ghost use Rattle.octets.specs.Words.{_≤_, _≡_, [], _∷_, length, drop};
 ghost use Rattle.text.specs.Text.{decimal, numbered, after, Wrote};
 
 // The last place, which no slice reaches. A text that would end after it ends there.
@@ -56,16 +56,13 @@ fn put_part(out: &mut [u8], at: usize, text: &[u8]) -> usize
 pub fn put_text(out: &mut [u8], at: usize, text: &[u8]) -> usize
     ensures { λ r. ⌜ Wrote (now (out .entry)) at (now (text .entry)) (now (out .exit)) r ⌝ }
 {
-    let n = text.len();
-    if out.len() < n {
-        return put_part(out, at, text);
+    let end = place_after(at, text.len());
+    // a text that ends before the end has room, and is not at the last place: one test for both
+    if end < out.len() {
+        fill(&mut out[at..end], text);
+        return end;
     }
-    if out.len() - n < at {
-        return put_part(out, at, text);
-    }
-    let end = at + n;
-    fill(&mut out[at..end], text);
-    end
+    put_part(out, at, text)
 }
 
 // Writes the digits of a number to the end of `digits`, and answers where they begin.
