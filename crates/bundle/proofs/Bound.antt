@@ -19,6 +19,7 @@ use Rattle.bundle.specs.Listing.{nameOf, slotText, line, lastLine, lines
 use Rattle.bundle.specs.Promises.{FewCalls, longestListing, Bounded, RoomSuffices}
 use Rattle.bundle.specs.Kinds.{Frame}
 use Rattle.bundle.specs.Kinds as frame
+use Rattle.bundle.proofs.Names.{printed}
 use Rattle.bundle.proofs.FeedLaws.{read-keeps}
 use Rattle.bundle.proofs.FrameLaws.{nothing-left, Takes, frame-takes}
 
@@ -87,28 +88,6 @@ ends-inside s =
 five-digits : (n : ℕ) → n < 100_000 → length (decimal n) ≤ 5
 five-digits n h = few-digits 4 n h
 
-named : (v : FenceVerdict) → length (nameOf v) ≤ 14
-unfolding nameOf
-named PassUnrelated = omega arith
-named Allow = omega arith
-named DropCookieZero = omega arith
-named DropMissing = omega arith
-named DropClosed = omega arith
-named DropExpired = omega arith
-named DropStaleToken = omega arith
-named DropMalformed = omega arith
-
-one-byte : (v : FenceVerdict) → length (slotText (slotOf v)) ≡ 1
-unfolding slotText decimalIn
-one-byte PassUnrelated = refl
-one-byte Allow = refl
-one-byte DropCookieZero = refl
-one-byte DropMissing = refl
-one-byte DropClosed = refl
-one-byte DropExpired = refl
-one-byte DropStaleToken = refl
-one-byte DropMalformed = refl
-
 headers-4 : (c : Call) → headersOf c ≤ 4
 unfolding headersOf
 headers-4 c =
@@ -118,7 +97,7 @@ line-most : (i : ℕ) (v : FenceVerdict) (h : ℕ) → i < 100_000 → h ≤ 4 �
 unfolding line
 line-most i v h l m =
     rw (one-digit h 20 (omega arith) (omega arith))
-    (simp length-append (omega (arith, five-digits i l, named v, one-byte v)))
+    (simp length-append (omega (arith, five-digits i l, printed v)))
 
 last-most : (count : ℕ) (e : Ending) → count < 100_000 → EndsBy 65_536 e → length (lastLine count e) ≤ 10
 unfolding lastLine

@@ -14,6 +14,7 @@ use Rattle.gate.specs.Gate.{Call, answering, headersOf}
 use Rattle.bundle.specs.Feed.{Ending, ended, bad}
 use Rattle.bundle.specs.Frames.{bundleOf}
 use Rattle.bundle.specs.Listing.{Line, nameOf, slotText, line, lastLine, linesBy, verdictLine, longest, listing}
+use Rattle.bundle.proofs.Names.{printed}
 use Rattle.bundle.specs.Promises.{callLines, LinesThenLast, OneLineEach}
 
 -- ---- the lines of the calls, and the last
@@ -33,53 +34,20 @@ lines-then-last A g f =
 
 -- ---- newlines
 
-in-name : (v : FenceVerdict) → newlines (nameOf v) ≡ 0
-unfolding nameOf newlines
-in-name PassUnrelated = refl
-in-name Allow = refl
-in-name DropCookieZero = refl
-in-name DropMissing = refl
-in-name DropClosed = refl
-in-name DropExpired = refl
-in-name DropStaleToken = refl
-in-name DropMalformed = refl
-
-in-slot : (v : FenceVerdict) → newlines (slotText (slotOf v)) ≡ 0
-unfolding slotText newlines decimalIn
-in-slot PassUnrelated = refl
-in-slot Allow = refl
-in-slot DropCookieZero = refl
-in-slot DropMissing = refl
-in-slot DropClosed = refl
-in-slot DropExpired = refl
-in-slot DropStaleToken = refl
-in-slot DropMalformed = refl
-
-in-space : newlines (ascii " ") ≡ 0
+-- the words between a line's parts, and the newline at its end
+in-words : (newlines (ascii " ") ≡ 0) × ((newlines (ascii "end ") ≡ 0) × ((newlines (ascii "bad ") ≡ 0) × (newlines (ascii "\n") ≡ 1)))
 unfolding newlines
-in-space = refl
-
-in-end : newlines (ascii "end ") ≡ 0
-unfolding newlines
-in-end = refl
-
-in-bad : newlines (ascii "bad ") ≡ 0
-unfolding newlines
-in-bad = refl
-
-in-newline : newlines (ascii "\n") ≡ 1
-unfolding newlines
-in-newline = refl
+in-words = (refl, (refl, (refl, refl)))
 
 one-line : (i : ℕ) (v : FenceVerdict) (h : ℕ) → newlines (line i v h) ≡ 1
 unfolding line
 one-line i v h =
-    simp newlines-append (rw (no-newline i, in-space, in-name v, no-newline h, in-slot v, in-newline))
+    simp newlines-append (rw (no-newline i, in-words .0, printed v .name-line, no-newline h, printed v .slot-line, in-words .1 .1 .1))
 
 one-last : (n : ℕ) (e : Ending) → newlines (lastLine n e) ≡ 1
 unfolding lastLine
-one-last n ended = simp newlines-append (rw (in-end, no-newline n, in-newline))
-one-last n (bad at) = simp newlines-append (rw (in-bad, no-newline at, in-newline))
+one-last n ended = simp newlines-append (rw (in-words .1 .0, no-newline n, in-words .1 .1 .1))
+one-last n (bad at) = simp newlines-append (rw (in-words .1 .1 .0, no-newline at, in-words .1 .1 .1))
 
 one-each : (i : ℕ) (cs : List Call) (e : Ending) → newlines (linesBy verdictLine i cs e) ≡ length cs + 1
 unfolding linesBy verdictLine

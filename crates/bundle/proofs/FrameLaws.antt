@@ -113,12 +113,16 @@ pub held-out : (s : List ℕ) (at n : ℕ) → length s < at + n → held s at n
 unfolding held
 held-out s at n h = rw (lt-leb (at + n) (length s) h)
 
-pub zeros : (z : List ℕ) (n m : ℕ) → z ≡ replicate 43 0 → n ≤ 43 → m ≡ n → take m z ≡ replicate n 0
+zeros : (z : List ℕ) (n m : ℕ) → z ≡ replicate 43 0 → n ≤ 43 → m ≡ n → take m z ≡ replicate n 0
 zeros z n m e h k =
     let whole : n + (43 - n) ≡ 43 = omega arith in
     let some : ℕ → List ℕ = λ j. replicate j 0 in
     let parts : some n ++ some (43 - n) ≡ some 43 = replicate-append-replicate n (43 - n) 0 ∙ ap some whole in
     ap (take m) (e ∙ sym parts) ∙ take-at (some n) (some (43 - n)) m (length-replicate n 0 ∙ sym k)
+
+-- the start of the zeros, where the bytes do not lie inside
+pub held-zeros : (s z : List ℕ) (at n : ℕ) → z ≡ replicate 43 0 → n ≤ 43 → length s < at + n → take (n - 0) z ≡ held s at n
+held-zeros s z at n e h l = zeros z n (n - 0) e h (omega arith) ∙ sym (held-out s at n l)
 
 -- eight octets of a number that was read are those that stand there, so two such stores make the address
 eight : (s : List ℕ) (at : ℕ) → Bytes s → leBytes 8 (le (octetsAt s at 8)) ≡ octetsAt s at 8

@@ -48,16 +48,20 @@ go-start g s t d h l m =
       owed = λ d′ r w. rw (ap (linesOf g 0) same) at w;
     }
 
--- what is told of the next packet, x, with what the lent table then holds: it begins the feed, and a packet lies in the bundle
-module _ (s : List ℕ) (c : Cursor) (t t′ : List ℕ) (x : Told) (e : nextIs s t′ x ≡ nextAt s (desk c t)) where
+-- what is told of the next packet is x, and the lent table then holds t′
+pub record Comes (s : List ℕ) (c : Cursor) (t t′ : List ℕ) (x : Told) : Type 0 where
+  pub next : nextIs s t′ x ≡ nextAt s (desk c t)
+
+-- it begins the feed, and a packet lies in the bundle
+module _ {s : List ℕ} {c : Cursor} {t t′ : List ℕ} {x : Told} (e : Comes s c t t′ x) where
   told-feed : {y : Told} → x ≡ y → deskFeed s (desk c t) ≡ beginning (deskFeed s) (nextIs s t′ y)
   unfolding deskFeed nextAt
-  told-feed h = feed-by-next _ (readStep s) (deskLeft s) (desks-fall s) (desk c t) ∙ ap (beginning (deskFeed s)) (sym e ∙ ap (nextIs s t′) h)
+  told-feed h = feed-by-next _ (readStep s) (deskLeft s) (desks-fall s) (desk c t) ∙ ap (beginning (deskFeed s)) (sym (e .next) ∙ ap (nextIs s t′) h)
 
   pub told-inside : {c′ : Cursor} {n : ℕ} → x ≡ told.Packet c′ n → (n ≤ c′ .at) × (c′ .at ≤ length s)
   unfolding callOf
   told-inside {c′} {n} h =
-      let there : Inside s (nextIs s t′ (told.Packet c′ n)) = subst (Inside s) (sym e ∙ ap (nextIs s t′) h) (inside s (desk c t)) in
+      let there : Inside s (nextIs s t′ (told.Packet c′ n)) = subst (Inside s) (sym (e .next) ∙ ap (nextIs s t′) h) (inside s (desk c t)) in
       (omega (arith, there .0, length-octets s (c′ .at - n) n), there .1)
 
   -- after it there are fewer

@@ -7,7 +7,7 @@ use Rattle.bundle.specs.Feed.{beginning}
 use Rattle.bundle.specs.Listing.{lastLine, linesBy, verdictLine}
 use Rattle.bundle.proofs.FrameLaws.{octets-part}
 use Rattle.bundle.proofs.DeskLaws.{desk, deskFeed}
-use Rattle.bundle.proofs.ListingLaws.{Going, go-start, told-inside, told-fewer, go-line, go-last, judged}
+use Rattle.bundle.proofs.ListingLaws.{Going, Comes, go-start, told-inside, told-fewer, go-line, go-last, judged}
 use Rattle.bundle.proofs.put_lines.Statement.{statement}
 use Rattle.bundle.proofs.put_lines.Tie as tie
 
@@ -25,21 +25,17 @@ loop-holds c =
     let fits : length (a .out .now) ≤ lastPlace = omega arith in
     rw (c .start .ensures) (go-start verdictLine (a .input .now) (a .table .now) (a .out .now) (start .pre) held fits)
 
--- a packet that is told lies in the bundle, and after it there are fewer
-inside : (c : tie.After-known-told Inv-loop μ-loop) → (c .before .after .given .0 .1 .0 ≤ c .before .after .given .0 .0 .at) × (c .before .after .given .0 .0 .at ≤ length (c .before .before .before .before .before .before .before .before .before .before .before .before .args .input .now))
-inside c =
-    let n = c .before .before .before .before .before in
-    let l = n .before .before in
-    told-inside (l .before .before .before .before .before .args .input .now) (l .loop .cursor) (l .loop .table) (n .next-packet .last .1 .0) (n .next-packet .result)
-    (n .next-packet .ensures) (c .before .after .given .1)
+-- what is told of the next packet at a turn
+comes : (n : tie.After-next-packet Inv-loop μ-loop) → Comes (n .before .before .before .before .before .before .before .args .input .now) (n .before .before .loop .cursor) (n .before .before .loop .table)
+    (n .next-packet .last .1 .0) (n .next-packet .result)
+comes n = record { next = n .next-packet .ensures }
+
+inside : (c : tie.After-known-told Inv-loop μ-loop) → (c .before .after .given .0 .1 .0 ≤ c .before .after .given .0 .0 .at) ×
+    (c .before .after .given .0 .0 .at ≤ length (c .before .before .before .before .before .before .before .before .before .before .before .before .args .input .now))
+inside c = told-inside (comes (c .before .before .before .before .before)) (c .before .after .given .1)
 
 loop-less : tie.Need-loop-less Inv-loop μ-loop
-loop-less c =
-    let told = c .before .before .before .before .before .before .before in
-    let n = told .before .before .before .before .before in
-    let l = n .before .before in
-    told-fewer (l .before .before .before .before .before .args .input .now) (l .loop .cursor) (l .loop .table) (n .next-packet .last .1 .0) (n .next-packet .result)
-    (n .next-packet .ensures) (told .before .after .given .1)
+loop-less c = let told = c .before .before .before .before .before .before .before in told-fewer (comes (told .before .before .before .before .before)) (told .before .after .given .1)
 
 loop-again : tie.Need-loop-again Inv-loop μ-loop
 loop-again c =
@@ -47,34 +43,24 @@ loop-again c =
     let judge = put .before .before in
     let told = judge .before .before .before in
     let n = told .before .before .before .before .before in
-    let l = n .before .before in
-    let s = l .before .before .before .before .before .args .input .now in
+    let s = n .before .before .before .before .before .before .before .args .input .now in
     let len = told .before .after .given .0 .1 .0 in
     let end = told .before .after .given .0 .0 .at in
     let part = octets-part s (end - len) len (end - (end - len)) (omega (arith, inside told)) (omega (arith, inside told)) in
-    go-line s (l .loop .cursor) (l .loop .table) (n .next-packet .last .1 .0) (n .next-packet .result)
-    (n .next-packet .ensures) (l .loop .inv) (told .before .after .given .1) (n .next-packet .kept .1 .0)
+    go-line (comes n) (n .before .before .loop .inv) (told .before .after .given .1) (n .next-packet .kept .1 .0)
     (judged _ (judge .judge .result) _ _ _ (judge .judge .ensures) part (put .put-line .ensures))
 
 returns : tie.Need-returns Inv-loop μ-loop
 unfolding lastLine linesBy beginning
 returns c =
-    let put = c .before .before in
-    let told = put .before .before .before in
-    let n = told .before .before .before .before .before in
-    let l = n .before .before in
-    go-last (l .before .before .before .before .before .args .input .now) (l .loop .cursor) (l .loop .table) (n .next-packet .last .1 .0) (n .next-packet .result)
-    (n .next-packet .ensures) (l .loop .inv) (told .before .last .given .1) (put .put-numbered .ensures)
+    let put = c .before .before in let told = put .before .before .before in let n = told .before .before .before .before .before in
+    go-last (comes n) (n .before .before .loop .inv) (told .before .last .given .1) (put .put-numbered .ensures)
 
 returns-2 : tie.Need-returns-2 Inv-loop μ-loop
 unfolding lastLine linesBy beginning
 returns-2 c =
-    let put = c .before .before in
-    let told = put .before .before .before in
-    let n = told .before .before .before .before .before in
-    let l = n .before .before in
-    go-last (l .before .before .before .before .before .args .input .now) (l .loop .cursor) (l .loop .table) (n .next-packet .last .1 .0) (n .next-packet .result)
-    (n .next-packet .ensures) (l .loop .inv) (told .before .last2 .given .1) (put .put-numbered2 .ensures)
+    let put = c .before .before in let told = put .before .before .before in let n = told .before .before .before .before .before in
+    go-last (comes n) (n .before .before .loop .inv) (told .before .last2 .given .1) (put .put-numbered2 .ensures)
 
 pub put-lines-spec : {M : Type 1} → statement M
 put-lines-spec =

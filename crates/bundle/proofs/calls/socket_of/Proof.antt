@@ -18,14 +18,4 @@ returns c =
 
 pub socket-of-spec : {M : Type 1} → statement M
 socket-of-spec =
-    tie.close
-    (tie.spec
-    (λ c. search needs)
-    free
-    (λ c κs. search needs)
-    (λ c. search needs)
-    free
-    (λ c κs. search needs)
-    free
-    free
-    returns)
+    tie.close (tie.spec (λ c. search needs) free free (λ c. search needs) free free free free returns)
