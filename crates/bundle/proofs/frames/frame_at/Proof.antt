@@ -1,6 +1,6 @@
 -- `frame_at`: nothing left, a head that is cut, a body that is cut, or a whole frame. Assumes nothing.
 use Rattle.octets.specs.Words.{_<_, _≤_, length}
-use Rattle.octets.proofs.Tools.{arith, needs, le-leb, lt-leb, lt-ltb, le-ltb}
+use Rattle.octets.proofs.Tools.{arith, needs, free, le-leb, lt-leb, lt-ltb, le-ltb}
 use Rattle.bundle.specs.Frames.{lengthAt, past, frameAt}
 use Rattle.bundle.proofs.frames.frame_at.Statement.{statement}
 use Rattle.bundle.proofs.frames.frame_at.Tie as tie
@@ -35,15 +35,5 @@ returns-4 c =
 
 pub frame-at-spec : {M : Type 1} → statement M
 frame-at-spec =
-    tie.close
-    (tie.spec
-    returns
-    (λ c. search needs)
-    returns-2
-    (λ c κs. search needs)
-    (λ c. search needs)
-    returns-3
-    (λ c. search needs)
-    (λ c κs. search needs)
-    (λ c κs. search needs)
-    returns-4)
+    tie.close (tie.spec returns (λ c. search needs) returns-2 free (λ c. search needs) returns-3 (λ c. search needs)
+    free free returns-4)
