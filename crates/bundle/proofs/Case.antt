@@ -2,12 +2,11 @@
 -- Assumes nothing.
 use Rattle.octets.proofs.Tools.{refl}
 use Rattle.octets.specs.Octets.{octetsAt, le, be, leBytes, beBytes, allZero, sameOctets}
-use Rattle.octets.specs.Codec.{decodeNumber, decodeValue}
-use Rattle.endpoint.specs.Endpoint.{usableIpv4, usableIpv6, soundEndpoint}
-use Rattle.config.specs.Config.{frameRule}
-use Rattle.records.specs.Current.{currentRule}
-use Rattle.records.specs.Entry.{stateRule}
-use Rattle.records.specs.CookieValue.{cookieValueRule}
+use Rattle.codec.specs.Codec.{decodeNumber, decodeValue}
+use Rattle.endpoint.specs.Endpoint.{usableIpv4, usableIpv6, addressUsable, spareZero}
+use Rattle.config.specs.Config.{capacityFits}
+use Rattle.records.specs.Current.{currentListed, tokenFits, cookieFits}
+use Rattle.records.specs.Entry.{stateListed, deadlineFits, epochFits}
 use Rattle.packet.specs.Reading.{sortOf, udpOf, passOf, countedOf, fragmentOf, stepOf as sorted, walkOf, ipv4Head, ipv6Head, known, classifyOf}
 use Rattle.text.specs.Text.{decimalIn}
 use Rattle.gate.specs.Table.{admissible, recordsIn, records, isUnder, under, firstOf}
@@ -18,9 +17,9 @@ use Rattle.bundle.specs.Listing.{nameOf, slotText, line, lastLine, lines
 use Rattle.bundle.specs.Examples.{configured, published, recorded, A, case, CaseListed, edges, EdgesListed}
 
 pub case-listed : CaseListed
-unfolding case configured published recorded A octetsAt le be leBytes beBytes allZero sameOctets decodeNumber decodeValue usableIpv4 usableIpv6 soundEndpoint frameRule currentRule stateRule cookieValueRule sortOf udpOf passOf countedOf fragmentOf sorted walkOf ipv4Head ipv6Head known classifyOf admissible recordsIn records isUnder under firstOf rules answering sameAddress matches headersOf onward readIn read exactly frameOf frameAt callOf stepOf feedAt bundleOf decimalIn nameOf slotText line lastLine linesBy verdictLine listing
+unfolding case configured published recorded A octetsAt le be leBytes beBytes allZero sameOctets decodeNumber decodeValue usableIpv4 usableIpv6 capacityFits addressUsable spareZero currentListed tokenFits cookieFits stateListed deadlineFits epochFits sortOf udpOf passOf countedOf fragmentOf sorted walkOf ipv4Head ipv6Head known classifyOf admissible recordsIn records isUnder under firstOf rules answering sameAddress matches headersOf onward readIn read exactly frameOf frameAt callOf stepOf feedAt bundleOf decimalIn nameOf slotText line lastLine linesBy verdictLine listing
 case-listed = refl
 
 pub edges-listed : EdgesListed
-unfolding edges configured octetsAt le be leBytes beBytes allZero sameOctets decodeNumber decodeValue usableIpv4 usableIpv6 soundEndpoint frameRule currentRule stateRule cookieValueRule sortOf udpOf passOf countedOf fragmentOf sorted walkOf ipv4Head ipv6Head known classifyOf admissible recordsIn records isUnder under firstOf rules answering sameAddress matches headersOf onward readIn read exactly frameOf frameAt callOf stepOf feedAt bundleOf decimalIn nameOf slotText line lastLine linesBy verdictLine listing
+unfolding edges configured octetsAt le be leBytes beBytes allZero sameOctets decodeNumber decodeValue usableIpv4 usableIpv6 capacityFits addressUsable spareZero currentListed tokenFits cookieFits stateListed deadlineFits epochFits sortOf udpOf passOf countedOf fragmentOf sorted walkOf ipv4Head ipv6Head known classifyOf admissible recordsIn records isUnder under firstOf rules answering sameAddress matches headersOf onward readIn read exactly frameOf frameAt callOf stepOf feedAt bundleOf decimalIn nameOf slotText line lastLine linesBy verdictLine listing
 edges-listed = refl

@@ -4,9 +4,9 @@
 use Rattle.octets.specs.Words.{ℕ, _≡_, Bool, true, false, cond, not, _&&_, _||_, List, [], _∷_, length, take, eqb}
 use Rattle.octets.proofs.Tools.{refl, sym, ap, _∙_, true≢false, eq-eqb, eqb-true, not-false}
 use Rattle.octets.specs.Octets.{octetsAt, le}
-use Rattle.octets.specs.Layout.{fieldsAt}
-use Rattle.octets.specs.Codec.{decodeNumber, decodeValue}
-use Rattle.octets.proofs.CodecLaws.{and-right}
+use Rattle.codec.proofs.CodecLaws.{accepted-ok}
+use Rattle.codec.specs.Codec.{decodeNumber, decodeValue}
+use Rattle.octets.proofs.Choices.{and-right}
 use Rattle.records.specs.Current.{currentCodec}
 use Rattle.records.specs.Entry.{closed}
 use Rattle.records.specs.CookieValue.{cookieValueCodec, entryOf}
@@ -63,14 +63,7 @@ past k s e = rw e
 
 -- a record that decodes has the token of its bytes 16 to 23, and one that is found has the token that was sought
 token-of : (r : List ℕ) → decodes cookieValueCodec r ≡ true → decodeValue cookieValueCodec r .«durable_fence_token» .0 ≡ le (octetsAt r 16 8)
-unfolding decodeNumber decodeValue
-token-of r = go (eqb (length r) 40) (cookieValueCodec .ok (fieldsAt (cookieValueCodec .layout) r 0))
-  where
-    go : (x y : Bool) → eqb (cond x (cond y 0 2) 1) 0 ≡ true →
-        cond x (cond y (cookieValueCodec .of (fieldsAt (cookieValueCodec .layout) r 0)) (cookieValueCodec .blank)) (cookieValueCodec .blank) .«durable_fence_token» .0 ≡ le (octetsAt r 16 8)
-    go true true e = refl
-    go true false e = absurd (true≢false (sym e))
-    go false y e = absurd (true≢false (sym e))
+token-of r h = ap (λ v. v .«durable_fence_token» .0) (accepted-ok cookieValueCodec (record { number = sym (eqb-true _ _ h); value = refl }) .1 .1)
 
 sought-token : (k t : ℕ) (r : List ℕ) → isUnder k t r ≡ true → le (octetsAt r 16 8) ≡ t
 unfolding isUnder

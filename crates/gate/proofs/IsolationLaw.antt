@@ -2,7 +2,7 @@
 -- by the isolation of the classifier. The rule that answers and the answer are functions of the view. Assumes nothing.
 use Rattle.octets.specs.Words.{_≡_, cond, not, _&&_, eqb}
 use Rattle.octets.proofs.Tools.{sym, ap, _∙_}
-use Rattle.octets.specs.Codec.{decodeValue}
+use Rattle.codec.specs.Codec.{decodeValue}
 use Rattle.config.specs.Config.{configCodec}
 use Rattle.records.specs.Current.{currentCodec}
 use Rattle.packet.specs.Reading.{classifyOf}

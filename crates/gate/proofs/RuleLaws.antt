@@ -2,7 +2,7 @@
 -- Then what each test of the gate's code says of the rule that it stands for. Assumes nothing.
 use Rattle.octets.specs.Words.{ℕ, _≡_, Bool, true, false, cond, not, List, [], _∷_, map, length, take, eqb}
 use Rattle.octets.proofs.Tools.{refl, sym, ap, _∙_, eq-eqb, ne-eqb, not-true, not-false}
-use Rattle.octets.specs.Codec.{Codec, Decoded}
+use Rattle.codec.specs.Codec.{Codec, Decoded}
 use Rattle.endpoint.specs.declared.ProtectedEndpoint.{ProtectedEndpoint}
 use Rattle.config.specs.Config.{configCodec}
 use Rattle.records.specs.Current.{currentCodec}

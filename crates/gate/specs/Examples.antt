@@ -1,7 +1,7 @@
 -- Calls, and what answers them: one for each of the thirteen rules, some at the rules' edges, two that demand 3 is about; and a gate that
 -- drops all, which meets demand 3 and is not this gate. Assumes nothing.
 use Rattle.octets.specs.Words.{ℕ, _≡_, true, false, List, [], _∷_, _++_, map, replicate, set}
-use Rattle.octets.specs.Codec.{bytes}
+use Rattle.codec.specs.Codec.{bytes}
 use Rattle.endpoint.specs.declared.ProtectedEndpoint.{ProtectedEndpoint}
 use Rattle.config.specs.Config.{config, configCodec}
 use Rattle.records.specs.Current.{current, currentCodec}

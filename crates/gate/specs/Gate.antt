@@ -2,7 +2,7 @@
 -- answer. Assumes nothing.
 use Rattle.octets.specs.Words.{ℕ, Bool, true, cond, not, _&&_, _||_, List, [], _∷_, length, take, eqb, leb}
 use Rattle.octets.specs.Octets.{octetsAt, sameOctets}
-use Rattle.octets.specs.Codec.{Codec, decodeNumber, decodeValue}
+use Rattle.codec.specs.Codec.{Codec, decodeNumber, decodeValue}
 use Rattle.endpoint.specs.declared.ProtectedEndpoint.{ProtectedEndpoint}
 use Rattle.config.specs.Config.{configCodec}
 use Rattle.records.specs.Current.{currentCodec}

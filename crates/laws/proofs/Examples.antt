@@ -1,14 +1,14 @@
 -- Document 01's examples hold: the checker computes the list from the definitions of four crates. Assumes nothing.
 use Rattle.octets.proofs.Tools.{refl}
 use Rattle.octets.specs.Octets.{octetsAt, le, be, sameOctets}
-use Rattle.octets.specs.Codec.{decodeNumber, decodeValue}
+use Rattle.codec.specs.Codec.{decodeNumber, decodeValue}
 use Rattle.deadline.specs.Deadline.{refreshDecision}
-use Rattle.records.specs.Mutation.{mutationRule}
-use Rattle.records.specs.Current.{currentRule}
+use Rattle.records.specs.Mutation.{claimFits}
+use Rattle.records.specs.Current.{currentListed, tokenFits, cookieFits}
 use Rattle.packet.specs.Reading.{sortOf, udpOf, passOf, countedOf, fragmentOf, stepOf, walkOf, ipv4Head, ipv6Head, known, classifyOf}
 use Rattle.packet.specs.Pinned.{packetA as A}
 use Rattle.laws.specs.Examples.{examples, holds, all, ExamplesHold}
 
 pub examples-hold : ExamplesHold
-unfolding all holds examples A octetsAt le be sameOctets decodeNumber decodeValue refreshDecision mutationRule currentRule sortOf udpOf passOf countedOf fragmentOf stepOf walkOf ipv4Head ipv6Head known classifyOf
+unfolding all holds examples A octetsAt le be sameOctets decodeNumber decodeValue refreshDecision claimFits currentListed tokenFits cookieFits sortOf udpOf passOf countedOf fragmentOf stepOf walkOf ipv4Head ipv6Head known classifyOf
 examples-hold = refl

@@ -1,6 +1,6 @@
 -- Document 01, 'Examples to prove': one list under one statement. The endpoint is 192.0.2.10:4500. Assumes nothing.
 use Rattle.octets.specs.Words.{ℕ, _≡_, Bool, true, false, not, _&&_, List, [], _∷_, replicate, set, eqb}
-use Rattle.octets.specs.Codec.{fieldsNumber, decodeNumber, decodeValue}
+use Rattle.codec.specs.Codec.{fieldsNumber, decodeNumber, decodeValue}
 use Rattle.deadline.specs.Deadline.{decisionNumber, refreshDecision}
 use Rattle.deadline.specs.declared.RefreshDeadlineDecision.{RefreshDeadlineDecision}
 use Rattle.deadline.specs.declared.RefreshDeadlineDecision.the-variants.{Apply, RequestedDeadlineInvalid, PriorExpired}
