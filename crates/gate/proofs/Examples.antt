@@ -9,7 +9,7 @@ use Rattle.config.specs.Config.{capacityFits}
 use Rattle.records.specs.Current.{currentListed, tokenFits, cookieFits}
 use Rattle.records.specs.Entry.{stateListed, deadlineFits, epochFits}
 use Rattle.packet.specs.Reading.{sortOf, udpOf, passOf, countedOf, fragmentOf, stepOf, walkOf, ipv4Head, ipv6Head, known, classifyOf}
-use Rattle.packet.specs.Pinned.{packetA as A}
+use Rattle.packet.specs.Pinned.{endpoint4500, A}
 use Rattle.packet.specs.Places.{udpPlaces, named}
 use Rattle.verdict.specs.declared.CounterSlot.the-variants.{Slot}
 use Rattle.gate.specs.Table.{admissible, recordsIn, records, isUnder, under, firstOf}
@@ -17,15 +17,15 @@ use Rattle.gate.specs.Gate.{viewOf, rules, answering, sameAddress, match
 use Rattle.gate.specs.Examples.{configured, open9, active9, unbound, witnesses, bound, loopback, configured6, B, later9, active8, edges, here, there, dropsAll, EveryRuleAnswers, EdgesHold, SomeAreAlike, DropsAllIsIsolated, DropsAllIsRefused}
 
 pub every-rule-answers : EveryRuleAnswers
-unfolding witnesses A configured open9 active9 unbound octetsAt le be leBytes beBytes allZero sameOctets decodeNumber decodeValue usableIpv4 usableIpv6 capacityFits addressUsable spareZero currentListed tokenFits cookieFits stateListed deadlineFits epochFits sortOf udpOf passOf countedOf fragmentOf stepOf walkOf ipv4Head ipv6Head known classifyOf admissible recordsIn records isUnder under firstOf sameAddress matches viewOf rules answering
+unfolding witnesses endpoint4500 A configured open9 active9 unbound octetsAt le be leBytes beBytes allZero sameOctets decodeNumber decodeValue usableIpv4 usableIpv6 capacityFits addressUsable spareZero currentListed tokenFits cookieFits stateListed deadlineFits epochFits sortOf udpOf passOf countedOf fragmentOf stepOf walkOf ipv4Head ipv6Head known classifyOf admissible recordsIn records isUnder under firstOf sameAddress matches viewOf rules answering
 every-rule-answers = refl
 
 pub edges-hold : EdgesHold
-unfolding edges bound loopback configured6 B later9 active8 A configured open9 active9 unbound octetsAt le be leBytes beBytes allZero sameOctets decodeNumber decodeValue usableIpv4 usableIpv6 capacityFits addressUsable spareZero currentListed tokenFits cookieFits stateListed deadlineFits epochFits sortOf udpOf passOf countedOf fragmentOf stepOf walkOf ipv4Head ipv6Head known classifyOf admissible recordsIn records isUnder under firstOf sameAddress matches viewOf rules answering headersOf
+unfolding edges bound loopback configured6 B later9 active8 endpoint4500 A configured open9 active9 unbound octetsAt le be leBytes beBytes allZero sameOctets decodeNumber decodeValue usableIpv4 usableIpv6 capacityFits addressUsable spareZero currentListed tokenFits cookieFits stateListed deadlineFits epochFits sortOf udpOf passOf countedOf fragmentOf stepOf walkOf ipv4Head ipv6Head known classifyOf admissible recordsIn records isUnder under firstOf sameAddress matches viewOf rules answering headersOf
 edges-hold = refl
 
 pub alike : SomeAreAlike
-unfolding here there active8 A configured open9 active9 unbound octetsAt le be leBytes beBytes allZero sameOctets decodeNumber decodeValue usableIpv4 capacityFits addressUsable spareZero currentListed tokenFits cookieFits bytesAt inside udpPlaces named ipv4Head admissible recordsIn records isUnder under firstOf
+unfolding here there active8 endpoint4500 A configured open9 active9 unbound octetsAt le be leBytes beBytes allZero sameOctets decodeNumber decodeValue usableIpv4 capacityFits addressUsable spareZero currentListed tokenFits cookieFits bytesAt inside udpPlaces named ipv4Head admissible recordsIn records isUnder under firstOf
 alike =
     record { config = refl; attachment = refl; socket = refl; cookie = refl; current = refl; time = refl; long = refl; agree = refl; first-table = refl; second-table = refl; found = refl }
 
@@ -34,7 +34,7 @@ unfolding dropsAll
 drops-all-is-isolated a b h = refl
 
 allowed : gateOf here .slot ≡ Slot 0
-unfolding here A configured open9 active9 unbound octetsAt le be leBytes beBytes allZero sameOctets decodeNumber decodeValue usableIpv4 usableIpv6 capacityFits addressUsable spareZero currentListed tokenFits cookieFits stateListed deadlineFits epochFits sortOf udpOf passOf countedOf fragmentOf stepOf walkOf ipv4Head ipv6Head known classifyOf admissible recordsIn records isUnder under firstOf sameAddress matches viewOf rules answering gateOf
+unfolding here endpoint4500 A configured open9 active9 unbound octetsAt le be leBytes beBytes allZero sameOctets decodeNumber decodeValue usableIpv4 usableIpv6 capacityFits addressUsable spareZero currentListed tokenFits cookieFits stateListed deadlineFits epochFits sortOf udpOf passOf countedOf fragmentOf stepOf walkOf ipv4Head ipv6Head known classifyOf admissible recordsIn records isUnder under firstOf sameAddress matches viewOf rules answering gateOf
 allowed = refl
 
 pub drops-all-is-refused : DropsAllIsRefused

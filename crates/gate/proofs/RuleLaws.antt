@@ -112,7 +112,7 @@ pub held-one : (s : List ℕ) → (length s ≡ 0 → ⊥) → held s ≡ s ∷ 
 held-one s h = rw (ne-eqb _ _ h)
 
 -- rules 9 to 13 look at the record that is found, the registered cookie, k and the time
-pub at-record : (v : View) (f : List ℕ) (g : ℕ) → v .found ≡ f ∷ [] → v .registered ≡ g →
+pub at-record : (v : View) (f : List (List ℕ)) (g : ℕ) → v .found ≡ f → v .registered ≡ g →
     firstRule (from 9 rules) v ≡ firstRule (from 9 rules) (registration f g (v .cookie) (v .time))
 unfolding rules
-at-record v f g p q = rw (p, q)
+at-record v f g p q = λ i. firstRule (from 9 rules) (registration (p i) (q i) (v .cookie) (v .time))

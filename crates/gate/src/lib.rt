@@ -11,7 +11,7 @@ use units::DurableFenceToken;
 use units::RootCgroupId;
 use units::SocketCookie;
 use verdict::FenceVerdict;
-ghost use Rattle.octets.specs.Words.{_≡_, not, eqb};
+ghost use Rattle.octets.specs.Words.{_≡_, not, [], _∷_, eqb};
 ghost use Rattle.packet.specs.Answers as reading;
 ghost use Rattle.records.specs.Entry.{closed};
 ghost use Rattle.gate.specs.Table.{admissible, isUnder, FirstUnder};
@@ -192,7 +192,7 @@ fn is_expired(deadline: BootNs, now_boot_ns: BootNs) -> bool
 
 // Rules 9 to 13: the record that was found under the key.
 fn judge(found: &[u8], registered: SocketCookie, cookie: SocketCookie, now_boot_ns: BootNs) -> u8
-    ensures { λ r. ⌜ r ≡ firstRule (from 9 rules) (registration (now (found .entry)) (registered .0) (cookie .0) («now_boot_ns» .0)) .number ⌝ }
+    ensures { λ r. ⌜ r ≡ firstRule (from 9 rules) (registration (now (found .entry) ∷ []) (registered .0) (cookie .0) («now_boot_ns» .0)) .number ⌝ }
 {
     let decoded = FenceCookieValue::decode(found);
     if decoded.number != 0 {

@@ -6,9 +6,9 @@ use Rattle.deadline.specs.Deadline.{refreshDecision}
 use Rattle.records.specs.Mutation.{claimFits}
 use Rattle.records.specs.Current.{currentListed, tokenFits, cookieFits}
 use Rattle.packet.specs.Reading.{sortOf, udpOf, passOf, countedOf, fragmentOf, stepOf, walkOf, ipv4Head, ipv6Head, known, classifyOf}
-use Rattle.packet.specs.Pinned.{packetA as A}
+use Rattle.packet.specs.Pinned.{endpoint4500, A}
 use Rattle.laws.specs.Examples.{examples, holds, all, ExamplesHold}
 
 pub examples-hold : ExamplesHold
-unfolding all holds examples A octetsAt le be sameOctets decodeNumber decodeValue refreshDecision claimFits currentListed tokenFits cookieFits sortOf udpOf passOf countedOf fragmentOf stepOf walkOf ipv4Head ipv6Head known classifyOf
+unfolding all holds examples endpoint4500 A octetsAt le be sameOctets decodeNumber decodeValue refreshDecision claimFits currentListed tokenFits cookieFits sortOf udpOf passOf countedOf fragmentOf stepOf walkOf ipv4Head ipv6Head known classifyOf
 examples-hold = refl

@@ -8,7 +8,7 @@ use Rattle.records.specs.Mutation.{mutationCodec}
 use Rattle.records.specs.Current.{currentCodec}
 use Rattle.packet.specs.Answers.{dispositionNumber}
 use Rattle.packet.specs.Reading.{Disposition, protected, unrelated, indeterminate, classifyOf}
-use Rattle.packet.specs.Pinned.{endpoint4, packetA as A}
+use Rattle.packet.specs.Pinned.{endpoint4500, A}
 
 pub data Example : Type 0 where
   -- a packet reads as d
@@ -50,7 +50,7 @@ same false b = not b
 
 -- the initial record has token 0 and cookie 0, and is not retired
 unfoldable pub holds : Example → Bool
-holds (reads p d) = eqb (dispositionNumber (classifyOf p endpoint4 .disposition)) (dispositionNumber d) && eqb (classifyOf p endpoint4 .headers) 0
+holds (reads p d) = eqb (dispositionNumber (classifyOf p endpoint4500 .disposition)) (dispositionNumber d) && eqb (classifyOf p endpoint4500 .headers) 0
 holds (decides o p r d) = eqb (refreshDecision o p r) (decisionNumber d)
 holds (mutates g c b) = same b (eqb (fieldsNumber mutationCodec (g ∷ c ∷ [])) 0)
 holds (initial s) =

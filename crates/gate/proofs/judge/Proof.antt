@@ -1,5 +1,5 @@
 -- `judge`: at each test a rule is passed over, or it answers. What the code has decoded is what the rules speak of. Assumes nothing.
-use Rattle.octets.specs.Words.{_≡_}
+use Rattle.octets.specs.Words.{_≡_, [], _∷_}
 use Rattle.octets.proofs.Tools.{refl, sym, ap, _∙_, free}
 use denote.Ref.{now}
 use Rattle.records.specs.Entry.{closed}
@@ -16,7 +16,7 @@ use Rattle.gate.proofs.judge.Tie as tie
 abbrev view9 : tie.After-struct-known → View
 view9 a =
     let args = a .before .before .before .args in
-    registration (now (args .found)) (args .registered .0) (args .cookie .0) (args .now-boot-ns .0)
+    registration (now (args .found) ∷ []) (args .registered .0) (args .cookie .0) (args .now-boot-ns .0)
 
 abbrev view10 : tie.After-is-stale → View
 view10 a = view9 (a .before .before .before .before)

@@ -33,9 +33,9 @@ abbrev pub lookup : ℕ → List ℕ → List ℕ → ℕ → Call
 lookup k current table time = given [] 0 (record { family = 0; address = []; port = 0 }) [] k current table time
 
 -- rules 9 to 13 look at the record that is found, the registered cookie, k and the time alone: a view with these
-abbrev pub registration : List ℕ → ℕ → ℕ → ℕ → View
+abbrev pub registration : List (List ℕ) → ℕ → ℕ → ℕ → View
 registration f g k b =
-    record { configured = true; attached = true; reading = unread; cookie = k; published = true; registered = g; admissible = true; found = f ∷ []; time = b }
+    record { configured = true; attached = true; reading = unread; cookie = k; published = true; registered = g; admissible = true; found = f; time = b }
 
 -- of a call: the number of the rule that answers, and the packet's reading where it is consulted
 pub record Ruled (c : Call) (r : Ruling) : Type 0 where
