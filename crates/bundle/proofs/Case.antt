@@ -10,16 +10,16 @@ use Rattle.records.specs.Entry.{stateListed, deadlineFits, epochFits}
 use Rattle.packet.specs.Reading.{sortOf, udpOf, passOf, countedOf, fragmentOf, stepOf as sorted, walkOf, ipv4Head, ipv6Head, known, classifyOf}
 use Rattle.text.specs.Text.{decimalIn}
 use Rattle.gate.specs.Table.{admissible, recordsIn, records, isUnder, under, firstOf}
-use Rattle.gate.specs.Gate.{rules, answering, sameAddress, matches, headersOf}
+use Rattle.gate.specs.Gate.{viewOf, rules, answering, sameAddress, matches, headersOf}
 use Rattle.bundle.specs.Feed.{onward, readIn, read}
 use Rattle.bundle.specs.Frames.{exactly, frameOf, frameAt, callOf, stepOf, feedAt, bundleOf}
 use Rattle.bundle.specs.Listing.{nameOf, slotText, line, lastLine, linesBy, verdictLine, listing}
 use Rattle.bundle.specs.Examples.{configured, published, recorded, A, case, CaseListed, edges, EdgesListed}
 
 pub case-listed : CaseListed
-unfolding case configured published recorded A octetsAt le be leBytes beBytes allZero sameOctets decodeNumber decodeValue usableIpv4 usableIpv6 capacityFits addressUsable spareZero currentListed tokenFits cookieFits stateListed deadlineFits epochFits sortOf udpOf passOf countedOf fragmentOf sorted walkOf ipv4Head ipv6Head known classifyOf admissible recordsIn records isUnder under firstOf rules answering sameAddress matches headersOf onward readIn read exactly frameOf frameAt callOf stepOf feedAt bundleOf decimalIn nameOf slotText line lastLine linesBy verdictLine listing
+unfolding case configured published recorded A octetsAt le be leBytes beBytes allZero sameOctets decodeNumber decodeValue usableIpv4 usableIpv6 capacityFits addressUsable spareZero currentListed tokenFits cookieFits stateListed deadlineFits epochFits sortOf udpOf passOf countedOf fragmentOf sorted walkOf ipv4Head ipv6Head known classifyOf admissible recordsIn records isUnder under firstOf viewOf rules answering sameAddress matches headersOf onward readIn read exactly frameOf frameAt callOf stepOf feedAt bundleOf decimalIn nameOf slotText line lastLine linesBy verdictLine listing
 case-listed = refl
 
 pub edges-listed : EdgesListed
-unfolding edges configured octetsAt le be leBytes beBytes allZero sameOctets decodeNumber decodeValue usableIpv4 usableIpv6 capacityFits addressUsable spareZero currentListed tokenFits cookieFits stateListed deadlineFits epochFits sortOf udpOf passOf countedOf fragmentOf sorted walkOf ipv4Head ipv6Head known classifyOf admissible recordsIn records isUnder under firstOf rules answering sameAddress matches headersOf onward readIn read exactly frameOf frameAt callOf stepOf feedAt bundleOf decimalIn nameOf slotText line lastLine linesBy verdictLine listing
+unfolding edges configured octetsAt le be leBytes beBytes allZero sameOctets decodeNumber decodeValue usableIpv4 usableIpv6 capacityFits addressUsable spareZero currentListed tokenFits cookieFits stateListed deadlineFits epochFits sortOf udpOf passOf countedOf fragmentOf sorted walkOf ipv4Head ipv6Head known classifyOf admissible recordsIn records isUnder under firstOf viewOf rules answering sameAddress matches headersOf onward readIn read exactly frameOf frameAt callOf stepOf feedAt bundleOf decimalIn nameOf slotText line lastLine linesBy verdictLine listing
 edges-listed = refl

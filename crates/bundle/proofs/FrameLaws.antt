@@ -4,10 +4,9 @@ use Rattle.octets.specs.Words.{ℕ, _+_, _-_, _<_, _≤_, _≡_, List, [], _++_
 use Rattle.octets.proofs.Tools.{refl, sym, ap, _∙_, arith, le-leb, lt-leb, eqb-true, ltb-false}
 use lib.ListN.{length-replicate, replicate-append-replicate}
 use lib.Seq.{take-at}
-use Rattle.octets.specs.Octets.{Bytes, octetsAt, le, leBytes, put}
-use Rattle.octets.proofs.OctetsLaws.{length-octets, octets-append, octets-drop, leBytes-le, Bytes-octets}
+use Rattle.octets.specs.Octets.{octetsAt, le}
+use Rattle.octets.proofs.OctetsLaws.{length-octets, octets-drop}
 use Rattle.text.proofs.Choices.{pick}
-use Rattle.config.proofs.AddressLaws.{stored}
 use Rattle.gate.specs.Gate.{Answer, gateOf}
 use Rattle.gate.specs.declared.Socket.{Socket}
 use Rattle.bundle.specs.Feed.{Step, stop, skip, emit, onward, noCall, callThen, Less, Falls}
@@ -123,13 +122,6 @@ zeros z n m e h k =
 -- the start of the zeros, where the bytes do not lie inside
 pub held-zeros : (s z : List ℕ) (at n : ℕ) → z ≡ replicate 43 0 → n ≤ 43 → length s < at + n → take (n - 0) z ≡ held s at n
 held-zeros s z at n e h l = zeros z n (n - 0) e h (omega arith) ∙ sym (held-out s at n l)
-
--- eight octets of a number that was read are those that stand there, so two such stores make the address
-eight : (s : List ℕ) (at : ℕ) → Bytes s → leBytes 8 (le (octetsAt s at 8)) ≡ octetsAt s at 8
-eight s at h = ap (λ (n : ℕ). leBytes n (le (octetsAt s at 8))) (sym (length-octets s at 8)) ∙ leBytes-le (octetsAt s at 8) (Bytes-octets s at 8 h)
-
-pub address : (s : List ℕ) (at : ℕ) → Bytes s → put (put (replicate 16 0) 0 (leBytes 8 (le (octetsAt s at 8)))) 8 (leBytes 8 (le (octetsAt s (at + 8) 8))) ≡ octetsAt s at 16
-address s at h = stored (le (octetsAt s at 8)) (le (octetsAt s (at + 8) 8)) ∙ rw (eight s at h, eight s (at + 8) h) (sym (octets-append s at 8 8))
 
 -- the gate is asked of a packet with the parts of the state
 pub asked-as : (st : State) (packet : List ℕ) {r : Answer} {config call current table : List ℕ} {socket : Socket} {attachment cookie time : ℕ} →
