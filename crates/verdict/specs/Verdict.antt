@@ -47,7 +47,7 @@ staleAuthority k e a =
     (not (eqb k (a .«current_registered_socket_cookie» .0)) ||
     not (eqb (e .«durable_fence_token» .0) (a .«current_durable_fence_token» .0))))
 
--- "State not Active: DropClosed. Boot time at or past the deadline: DropExpired. Allow."
+-- "State not Active: DropClosed."; "Boot time at or past the deadline: DropExpired."; "Allow."
 unfoldable pub entryVerdict : FenceEntry → ℕ → CounterSlot
 entryVerdict e now = cond (closed (e .state)) (slotOf DropClosed) (cond (leb (e .«deadline_boot_ns» .0) now) (slotOf DropExpired) (slotOf Allow))
 
