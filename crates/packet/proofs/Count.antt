@@ -27,7 +27,7 @@ unfolding walkOf stepOf sortOf
 udp-uncounted s p e zero c = refl
 udp-uncounted s p e (suc a) c = refl
 
-pub ipv6-count : (s : List ℕ) (p : ProtectedEndpoint) → ipv6Of s p .headers ≤ 4
+ipv6-count : (s : List ℕ) (p : ProtectedEndpoint) → ipv6Of s p .headers ≤ 4
 ipv6-count s p = followed 4 (ipv6Head s (p .address)) _ (walk-count s (p .port) _ 4)
 
 pub count-at-most-4 : CountAtMost4

@@ -6,6 +6,7 @@ use Rattle.packet.specs.declared.PacketEndpointDisposition.{PacketEndpoi
 use Rattle.packet.specs.declared.PacketEndpointDisposition.the-variants.{Protected, Unrelated, Indeterminate}
 use Rattle.packet.specs.declared.PacketReading.{PacketReading}
 
+-- the three cases of packet.rs, which 01's 'Reading a packet' names
 abbrev pub dispositionOf : PacketEndpointDisposition → Disposition
 dispositionOf Protected = protected
 dispositionOf Unrelated = unrelated
@@ -19,9 +20,10 @@ dispositionFrom d = byDisposition d Protected Unrelated Indeterminate
 abbrev pub dispositionNumber : Disposition → ℕ
 dispositionNumber d = byDisposition d 0 1 2
 
--- the disposition of a number
+-- the disposition of a number; one that none has is taken for Indeterminate's
 abbrev pub dispositionNumbered : ℕ → Disposition
 dispositionNumbered n = cond (eqb n 0) protected (cond (eqb n 1) unrelated indeterminate)
 
+-- a reading as the definitions have it
 abbrev pub answerOf : PacketReading → Answer
 answerOf r = record { disposition = dispositionOf (r .disposition); headers = r .headers }
