@@ -10,7 +10,7 @@ use Rattle.octets.proofs.Choices.{and-right}
 use Rattle.records.specs.Current.{currentCodec}
 use Rattle.records.specs.Entry.{closed}
 use Rattle.records.specs.CookieValue.{cookieValueCodec, entryOf}
-use Rattle.packet.specs.Reading.{Disposition, Answer, protected, isUnrelated, isIndeterminate}
+use Rattle.packet.specs.Reading.{Disposition, protected, isUnrelated, isIndeterminate}
 use Rattle.packet.proofs.Unique.{disposition-forth}
 use Rattle.verdict.specs.Verdict.{slotOf, staleAuthority, entryVerdict, registeredVerdict, protectedVerdict, egressVerdict}
 use Rattle.verdict.specs.declared.CounterSlot.{CounterSlot}
@@ -18,8 +18,8 @@ use Rattle.verdict.specs.declared.FenceVerdict.the-variants.{DropStaleToken}
 use Rattle.verdict.specs.declared.FenceAuthoritySnapshot.{FenceAuthoritySnapshot}
 use Rattle.verdict.specs.declared.RegisteredEntry.{RegisteredEntry}
 use Rattle.verdict.specs.declared.RegisteredEntry.the-variants.{Absent, Present}
-use Rattle.gate.specs.Table.{records, isUnder, under, firstOf}
-use Rattle.gate.specs.Gate.{Call, decodes, stale, expired, differs, reading, token, registered, sought, unread, View, viewOf, value, Rule, rules, firstRule, answering, gateOf}
+use Rattle.gate.specs.Table.{isUnder, firstOf}
+use Rattle.gate.specs.Gate.{Call, decodes, stale, expired, differs, reading, token, registered, unread, View, viewOf, value, Rule, rules, firstRule, answering, gateOf}
 use Rattle.gate.specs.Inner.Steps.{from, numbered}
 use Rattle.gate.specs.Decided.{undecoded, contextOf, entryIn, snapshotOf, Decided}
 use Rattle.gate.proofs.TableLaws.{First, none, first, first-found}

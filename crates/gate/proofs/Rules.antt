@@ -1,10 +1,13 @@
 -- The first rule that applies answers, by induction on the list; of a list that ends in 'Allow' one always does; and so of the gate's.
--- Assumes nothing.
-use Rattle.octets.specs.Words.{ℕ, zero, suc, _-_, _<_, _≡_, Bool, true, false, List, [], _∷_, _++_, length, take}
+-- The header count is one of a packet's reading, or 0. Assumes nothing.
+use Rattle.octets.specs.Words.{zero, suc, _-_, _<_, _≤_, _≡_, Bool, true, false, List, [], _∷_, _++_, length, take}
 use Rattle.octets.proofs.Tools.{refl, ap, arith}
+use Rattle.octets.proofs.Choices.{cond-all}
+use Rattle.packet.specs.Reading.{Answer as Reading}
+use Rattle.packet.proofs.Count as packet
 use Rattle.verdict.specs.Verdict.{slotOf}
-use Rattle.gate.specs.Gate.{View, viewOf, Rule, allow, rules, answering, gateOf}
-use Rattle.gate.specs.Promises.{None, FirstThatApplies, Found, SomeRuleApplies, RuleAnswers, NumberedInOrder}
+use Rattle.gate.specs.Gate.{endpoint, consulted, View, viewOf, Rule, allow, rules, answering, headersOf, gateOf}
+use Rattle.gate.specs.Promises.{None, FirstThatApplies, Found, SomeRuleApplies, RuleAnswers, NumberedInOrder, CountAtMost4}
 
 pub first-that-applies : FirstThatApplies
 first-that-applies [] n v h e = refl
@@ -40,3 +43,7 @@ rule-answers n c h e = let r = first-that-applies rules n (viewOf c) h e in (r, 
 pub numbered-in-order : NumberedInOrder
 unfolding rules
 numbered-in-order = refl
+
+pub count-at-most-4 : CountAtMost4
+unfolding headersOf viewOf
+count-at-most-4 c = cond-all (λ (r : Reading). r .headers ≤ 4) (consulted c) (packet.count-at-most-4 (c .packet) (endpoint c)) (omega arith)

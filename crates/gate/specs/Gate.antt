@@ -50,7 +50,7 @@ sameAddress family a b = sameOctets (octetsAt a 0 (addressLength family)) (octet
 unfoldable pub matches : Socket → ProtectedEndpoint → Bool
 matches s e = eqb (s .family) (e .family) && (eqb (s .port) (e .port) && sameAddress (e .family) (s .address) (e .address))
 
--- "Registered cookie 0 or not k"; "boot time at or past the deadline"
+-- "Registered cookie 0 or not k"; "Boot time at or past the deadline"
 abbrev pub stale : ℕ → ℕ → Bool
 stale registered k = eqb registered 0 || not (eqb k registered)
 

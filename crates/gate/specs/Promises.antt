@@ -1,8 +1,8 @@
--- What is promised of the rules: the first that applies answers, one always does, and they bear 01's numbers in 01's order. Assumes
--- nothing.
-use Rattle.octets.specs.Words.{ℕ, zero, suc, _<_, _≡_, true, false, List, [], _∷_, map, length}
+-- What is promised of the rules: the first that applies answers, one always does, and they bear 01's numbers in 01's order; and of the
+-- header count. Assumes nothing.
+use Rattle.octets.specs.Words.{ℕ, zero, suc, _<_, _≤_, _≡_, true, false, List, [], _∷_, map, length}
 use Rattle.verdict.specs.Verdict.{slotOf}
-use Rattle.gate.specs.Gate.{Call, View, viewOf, Rule, allow, rules, firstRule, answering, gateOf}
+use Rattle.gate.specs.Gate.{Call, View, viewOf, Rule, allow, rules, firstRule, answering, headersOf, gateOf}
 
 -- the rule at a place of a list, counted from 0
 abbrev pub at : List Rule → ℕ → Rule
@@ -38,3 +38,7 @@ RuleAnswers =
 -- the numbers are 1 to 13, in order
 abbrev pub NumberedInOrder : Type 0
 NumberedInOrder = map (λ (r : Rule). r .number) rules ≡ 1 ∷ 2 ∷ 3 ∷ 4 ∷ 5 ∷ 6 ∷ 7 ∷ 8 ∷ 9 ∷ 10 ∷ 11 ∷ 12 ∷ 13 ∷ []
+
+-- the header count, the packet's or 0, is at most 4
+abbrev pub CountAtMost4 : Type 0
+CountAtMost4 = (c : Call) → headersOf c ≤ 4

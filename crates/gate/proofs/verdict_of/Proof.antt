@@ -1,5 +1,5 @@
 -- `verdict_of`: the rule of that number has that verdict; every other rule drops a packet as malformed. Assumes nothing.
-use Rattle.octets.specs.Words.{ℕ, _≡_, eqb}
+use Rattle.octets.specs.Words.{_≡_, eqb}
 use Rattle.octets.proofs.Tools.{refl, ne-eqb}
 use Rattle.octets.proofs.Choices.{cond-all}
 use Rattle.verdict.specs.declared.FenceVerdict.the-variants.{DropMalformed}

@@ -14,7 +14,7 @@ use Rattle.gate.specs.Gate.{Call, given, matches, unread, View, viewOf, 
 unfoldable pub sourceOf : Socket → List ℕ → ProtectedEndpoint → Reading
 sourceOf s p e = cond (matches s e) unread (classifyOf p e)
 
--- "Token 0 (no key is sought)": the record that is sought under a key, or no bytes
+-- "Current token 0 (no key is sought)": the record that is sought under a key, or no bytes
 unfoldable pub soughtRecord : ℕ → ℕ → List ℕ → List ℕ
 soughtRecord k t table = cond (eqb t 0) [] (firstOf (under k t (records table)))
 
