@@ -106,6 +106,11 @@ laid-append [] gs (v ∷ vs) ws h = absurd (omega arith)
 laid-append (f ∷ fs) gs [] ws h = absurd (omega arith)
 laid-append (f ∷ fs) gs (v ∷ vs) ws h = rw (laid-append fs gs vs ws (omega arith), append-assoc)
 
+-- what two layouts put one after the other leave is what the one made of both leaves
+pub put-two : (fs gs : List Field) (vs ws d : List ℕ) (at : ℕ) → length vs ≡ length fs →
+    put (put d at (laid fs vs)) (at + size fs) (laid gs ws) ≡ put d at (laid (fs ++ gs) (vs ++ ws))
+put-two fs gs vs ws d at h = rw (laid-append fs gs vs ws h, put-append, length-laid fs vs h)
+
 -- the fields of a part of m octets from the place k on are those of the whole from there on
 part-from : (fs : List Field) (s : List ℕ) (k m i : ℕ) → i + size fs ≤ m → fieldsAt fs (take m (drop k s)) i ≡ fieldsAt fs s (k + i)
 part-from [] s k m i h = refl

@@ -1,2 +1,4 @@
--- The definitions that the contracts of `config` cite: the codec of a configuration. Assumes nothing.
+-- The definitions that the contracts of `config` cite: the codec of a configuration, and what is promised of it. Assumes nothing.
 pub mod Config
+pub mod Promises
+pub mod Inner

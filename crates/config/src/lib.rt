@@ -2,11 +2,11 @@
 // given back are those of `records`.
 use endpoint::ProtectedEndpoint;
 use units::RootCgroupId;
-ghost use Rattle.octets.specs.Words.{_≡_, [], _∷_};
-ghost use Rattle.octets.specs.Octets.{octetsAt, le};
-ghost use Rattle.octets.specs.Stores.{puts};
-ghost use Rattle.octets.specs.Codec.{Built, Decoded, Encoded, sound};
-ghost use Rattle.config.specs.Config.{versionRule, frameRule, endpointOf, config, frameFields, configCodec};
+ghost use Rattle.octets.specs.Words.{_≡_, _&&_};
+ghost use Rattle.octets.specs.Octets.{octetsAt, put};
+ghost use Rattle.codec.specs.Codec.{Made, Decoded, Encoded, sound, bytes};
+ghost use Rattle.config.specs.Config.{versionListed, capacityFits, config, configCodec};
+ghost use Rattle.config.specs.Inner.Steps.{frameFits};
 
 pub struct FenceConfig {
     pub endpoint: ProtectedEndpoint,
@@ -19,19 +19,26 @@ pub struct ConfigAnswer {
     pub value: FenceConfig,
 }
 
-// The capacity that a version takes.
+// Whether a version is taken, and with this capacity.
 fn version_rule(version: u16, capacity: u32) -> bool
-    ensures { λ r. ⌜ r ≡ versionRule version capacity ⌝ }
+    ensures { λ r. ⌜ r ≡ (versionListed version && capacityFits version capacity) ⌝ }
 {
     (version == FenceConfig::VERSION) & (capacity == FenceConfig::CAPACITY)
 }
 
 // What is asked of the fields that are no part of the endpoint.
-fn frame_rule(mark: u32, version: u16, zero: u8, zeros: u16, capacity: u32, root: u64) -> bool
-    ensures { λ r. ⌜ r ≡ frameRule mark version zero zeros capacity root ⌝ }
+fn frame_rule(
+    mark: u32,
+    version: u16,
+    zero: u8,
+    zeros: u16,
+    capacity: u32,
+    root: RootCgroupId,
+) -> bool
+    ensures { λ r. ⌜ r ≡ frameFits mark version zero zeros capacity (root .0) ⌝ }
 {
     (mark == FenceConfig::MARK)
-        & ((zero == 0) & ((zeros == 0) & ((root != 0) & version_rule(version, capacity))))
+        & ((zero == 0) & ((zeros == 0) & (version_rule(version, capacity) & (root.0 != 0))))
 }
 
 // A refusal.
@@ -52,51 +59,16 @@ fn refused(number: u32) -> ConfigAnswer
     }
 }
 
-// The endpoint whose sixteen address octets are those of two numbers.
-fn endpoint_of(family: u8, first: u64, second: u64, port: u16) -> ProtectedEndpoint
-    ensures { λ r. ⌜ r ≡ endpointOf family first second port ⌝ }
+// The sixteen octets of the address, read as two numbers of eight.
+fn address_at(s: &[u8]) -> [u8; 16]
+    ensures { λ r. ⌜ r ≡ octetsAt (now (s .entry)) 24 16 ⌝ }
 {
+    let first = octets::get_u64_le(s, 24);
+    let second = octets::get_u64_le(s, 32);
     let mut address = [0u8; 16];
     octets::put_u64_le(&mut address, 0, first);
     octets::put_u64_le(&mut address, 8, second);
-    ProtectedEndpoint {
-        family,
-        address,
-        port,
-    }
-}
-
-// What the ten numbers of the layout give.
-fn from_fields(
-    mark: u32,
-    version: u16,
-    family: u8,
-    zero: u8,
-    port: u16,
-    zeros: u16,
-    capacity: u32,
-    root: u64,
-    first: u64,
-    second: u64,
-) -> ConfigAnswer
-    ensures { λ r. ⌜ Built configCodec (mark ∷ version ∷ family ∷ zero ∷ port ∷ zeros ∷ capacity ∷ root ∷ first ∷ second ∷ []) (r .number) (r .value) ⌝ }
-{
-    if !frame_rule(mark, version, zero, zeros, capacity, root) {
-        return refused(2);
-    }
-    let endpoint = endpoint_of(family, first, second, port);
-    if endpoint.is_sound() {
-        ConfigAnswer {
-            number: 0,
-            value: FenceConfig {
-                endpoint,
-                root_cgroup_id: RootCgroupId(root),
-                capacity,
-            },
-        }
-    } else {
-        refused(2)
-    }
+    address
 }
 
 impl FenceConfig {
@@ -109,132 +81,133 @@ impl FenceConfig {
 
     pub const CAPACITY: u32 = 4096;
 
+    // The record of an endpoint, a root cgroup and a capacity; 2 where it is unsound.
     pub fn new(
         endpoint: ProtectedEndpoint,
         root_cgroup_id: RootCgroupId,
         capacity: u32,
     ) -> ConfigAnswer
-        ensures { λ r. ⌜ Built configCodec (configCodec .fields (config endpoint («root_cgroup_id» .0) capacity)) (r .number) (r .value) ⌝ }
+        ensures { λ r. ⌜ Made configCodec (config endpoint («root_cgroup_id» .0) capacity) (r .number) (r .value) ⌝ }
     {
-        let family = endpoint.family;
-        let address = endpoint.address;
-        let port = endpoint.port;
-        let first = octets::get_u64_le(&address, 0);
-        let second = octets::get_u64_le(&address, 8);
-        from_fields(
-            FenceConfig::MARK,
-            FenceConfig::VERSION,
-            family,
-            0,
-            port,
-            0,
+        let value = FenceConfig {
+            endpoint,
+            root_cgroup_id,
             capacity,
-            root_cgroup_id.0,
-            first,
-            second,
-        )
+        };
+        if value.is_sound() {
+            ConfigAnswer { number: 0, value }
+        } else {
+            refused(2)
+        }
     }
 
+    // The protected endpoint.
     pub fn endpoint(self) -> ProtectedEndpoint
         ensures { λ r. ⌜ r ≡ self .endpoint ⌝ }
     {
         self.endpoint
     }
 
+    // The cgroup that the hook is attached to.
     pub fn root_cgroup_id(self) -> RootCgroupId
         ensures { λ r. ⌜ r ≡ self .«root_cgroup_id» ⌝ }
     {
         self.root_cgroup_id
     }
 
+    // The number of records that the cookie map holds.
     pub fn capacity(self) -> u32
         ensures { λ r. ⌜ r ≡ self .capacity ⌝ }
     {
         self.capacity
     }
 
+    // Whether the decoder gives this record for some bytes: capacity, root cgroup, and the endpoint's own rules.
     pub fn is_sound(self) -> bool
         ensures { λ r. ⌜ r ≡ sound configCodec self ⌝ }
     {
         let endpoint = self.endpoint;
         let root = self.root_cgroup_id;
-        let capacity = self.capacity;
-        if !frame_rule(
-            FenceConfig::MARK,
-            FenceConfig::VERSION,
-            0,
-            0,
-            capacity,
-            root.0,
-        ) {
+        if !version_rule(FenceConfig::VERSION, self.capacity) {
             return false;
         }
-        let family = endpoint.family;
-        let address = endpoint.address;
-        let port = endpoint.port;
-        let first = octets::get_u64_le(&address, 0);
-        let second = octets::get_u64_le(&address, 8);
-        endpoint_of(family, first, second, port).is_sound()
+        if root.0 == 0 {
+            return false;
+        }
+        endpoint.is_sound()
     }
 
+    // The record that bytes stand for. The frame is asked first, then the endpoint.
     pub fn decode(s: &[u8]) -> ConfigAnswer
         ensures { λ r. ⌜ Decoded configCodec (now (s .entry)) (r .number) (r .value) ⌝ }
     {
         if s.len() != FenceConfig::LEN {
             return refused(1);
         }
-        let mark = octets::get_u32_be(s, 0);
-        let version = octets::get_u16_le(s, 4);
-        let family = octets::get_u8(s, 6);
-        let zero = octets::get_u8(s, 7);
+        let head = codec::get_head(s);
         let port = octets::get_u16_be(s, 8);
         let zeros = octets::get_u16_le(s, 10);
         let capacity = octets::get_u32_le(s, 12);
-        let root = octets::get_u64_le(s, 16);
-        let first = octets::get_u64_le(s, 24);
-        let second = octets::get_u64_le(s, 32);
-        from_fields(
-            mark,
-            version,
-            family,
-            zero,
-            port,
+        let root_cgroup_id = RootCgroupId(octets::get_u64_le(s, 16));
+        if !frame_rule(
+            head.mark,
+            head.version,
+            head.zero,
             zeros,
             capacity,
-            root,
-            first,
-            second,
-        )
+            root_cgroup_id,
+        ) {
+            return refused(2);
+        }
+        let address = address_at(s);
+        let endpoint = ProtectedEndpoint {
+            family: head.byte,
+            address,
+            port,
+        };
+        if !endpoint.is_sound() {
+            return refused(2);
+        }
+        ConfigAnswer {
+            number: 0,
+            value: FenceConfig {
+                endpoint,
+                root_cgroup_id,
+                capacity,
+            },
+        }
     }
 
-    // The fields before the address, put at the start.
-    fn write_frame(self, out: &mut [u8])
-        ensures { λ r. ⌜ now (out .exit) ≡ puts (configCodec .layout) (frameFields self) (now (out .entry)) 0 ⌝ }
+    // The record's fields, put at the start.
+    fn write(self, out: &mut [u8])
+        ensures { λ r. ⌜ now (out .exit) ≡ put (now (out .entry)) 0 (bytes configCodec self) ⌝ }
     {
         let endpoint = self.endpoint;
         let root = self.root_cgroup_id;
-        octets::put_u32_be(out, 0, FenceConfig::MARK);
-        octets::put_u16_le(out, 4, FenceConfig::VERSION);
-        octets::put_u8(out, 6, endpoint.family);
-        octets::put_u8(out, 7, 0);
+        let address = endpoint.address;
+        let first = octets::get_u64_le(&address, 0);
+        let second = octets::get_u64_le(&address, 8);
+        codec::put_head(
+            out,
+            FenceConfig::MARK,
+            FenceConfig::VERSION,
+            endpoint.family,
+        );
         octets::put_u16_be(out, 8, endpoint.port);
         octets::put_u16_le(out, 10, 0);
         octets::put_u32_le(out, 12, self.capacity);
         octets::put_u64_le(out, 16, root.0);
+        octets::put_u64_le(out, 24, first);
+        octets::put_u64_le(out, 32, second);
     }
 
+    // The record's bytes, written at the start.
     pub fn encode(self, out: &mut [u8]) -> u32
         ensures { λ r. ⌜ Encoded configCodec self (now (out .entry)) r (now (out .exit)) ⌝ }
     {
-        let number = octets::encode_number(self.is_sound(), FenceConfig::LEN, out.len());
+        let number = codec::encode_number(self.is_sound(), FenceConfig::LEN, out.len());
         if number == 0 {
-            let endpoint = self.endpoint;
-            let address = endpoint.address;
-            let first = octets::get_u64_le(&address, 0);
-            let second = octets::get_u64_le(&address, 8);
-            self.write_frame(out);
-            octets::put_u64_le(out, 24, first);
-            octets::put_u64_le(out, 32, second);
+            self.write(out);
         }
         number
     }

@@ -1,5 +1,5 @@
 -- Document 01, 'Endpoint rules': which addresses and ports may be protected, and when a source matches. Assumes nothing.
-use Rattle.octets.specs.Words.{ℕ, _/_, Bool, false, cond, not, _&&_, _||_, List, _++_, getD, replicate, eqb, ltb}
+use Rattle.octets.specs.Words.{ℕ, _/_, Bool, true, cond, not, _&&_, _||_, List, _++_, getD, replicate, eqb, ltb}
 use Rattle.octets.specs.Octets.{octetsAt, allZero, sameOctets}
 use Rattle.endpoint.specs.declared.ProtectedEndpoint.{ProtectedEndpoint}
 use Rattle.endpoint.specs.declared.EndpointAnswer.{EndpointAnswer}
@@ -20,13 +20,26 @@ ipv4Mapped a = allZero (octetsAt a 0 10) && (eqb (getD a 10 0) 0xff && eqb (getD
 unfoldable pub usableIpv6 : List ℕ → Bool
 usableIpv6 a = not (allZero (octetsAt a 0 16) || (eqb (getD a 0 0) 0xff || (linkLocal a || ipv4Mapped a)))
 
--- an endpoint value is sound: port 0 is refused; an IPv4 address has its twelve spare bytes zero; there is no third family
+-- "Port 0 is refused."
+abbrev pub portUsable : ℕ → Bool
+portUsable port = not (eqb port 0)
+
+-- there is no third family
+abbrev pub familyListed : ℕ → Bool
+familyListed family = eqb family 4 || eqb family 6
+
+-- an address may be protected by the rule of its family; of a family that is not listed nothing more is asked
+unfoldable pub addressUsable : ℕ → List ℕ → Bool
+addressUsable family a = cond (eqb family 4) (usableIpv4 a) (cond (eqb family 6) (usableIpv6 a) true)
+
+-- "An IPv4 endpoint value whose spare address bytes are not zero is unsound."
+unfoldable pub spareZero : ℕ → List ℕ → Bool
+spareZero family a = cond (eqb family 4) (allZero (octetsAt a 4 12)) true
+
+-- an endpoint value is sound
 unfoldable pub soundEndpoint : ProtectedEndpoint → Bool
 soundEndpoint e =
-    not (eqb (e .port) 0) &&
-    cond (eqb (e .family) 4) (usableIpv4 (e .address) && allZero (octetsAt (e .address) 4 12))
-    (cond (eqb (e .family) 6) (usableIpv6 (e .address))
-    false)
+    portUsable (e .port) && (familyListed (e .family) && (addressUsable (e .family) (e .address) && spareZero (e .family) (e .address)))
 
 -- the all-zero record of a refusal
 abbrev pub blank : ProtectedEndpoint
@@ -43,9 +56,13 @@ ipv4Of a p = record { family = 4; address = octetsAt a 0 4 ++ replicate 12 0; po
 abbrev pub ipv6Of : List ℕ → ℕ → ProtectedEndpoint
 ipv6Of a p = record { family = 6; address = a; port = p }
 
--- a source of the endpoint's own family with its address and port; spare bytes are ignored, and port 0 is compared like any other
-unfoldable pub matchesIpv4 : ProtectedEndpoint → List ℕ → ℕ → Bool
-matchesIpv4 e a p = eqb (e .family) 4 && (eqb (e .port) p && sameOctets (octetsAt (e .address) 0 4) (octetsAt a 0 4))
+-- a source of the endpoint's own family with its address, of so many octets, and its port; spare bytes are ignored, and port 0 is compared
+-- like any other
+unfoldable pub matches : ℕ → ℕ → ProtectedEndpoint → List ℕ → ℕ → Bool
+matches family n e a p = eqb (e .family) family && (eqb (e .port) p && sameOctets (octetsAt (e .address) 0 n) (octetsAt a 0 n))
 
-unfoldable pub matchesIpv6 : ProtectedEndpoint → List ℕ → ℕ → Bool
-matchesIpv6 e a p = eqb (e .family) 6 && (eqb (e .port) p && sameOctets (octetsAt (e .address) 0 16) (octetsAt a 0 16))
+abbrev pub matchesIpv4 : ProtectedEndpoint → List ℕ → ℕ → Bool
+matchesIpv4 = matches 4 4
+
+abbrev pub matchesIpv6 : ProtectedEndpoint → List ℕ → ℕ → Bool
+matchesIpv6 = matches 6 16

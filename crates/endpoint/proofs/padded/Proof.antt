@@ -1,23 +1,11 @@
 -- `padded`: four stores into zeros are the four octets and twelve zeros. Assumes nothing.
 use Rattle.octets.specs.Octets.{octetsAt}
 use Rattle.octets.proofs.Tools.{refl, needs}
-use Rattle.endpoint.proofs.padded.Statement.{statement}
-use Rattle.endpoint.proofs.padded.Tie as tie
+use Rattle.endpoint.proofs.padded as the
 
-returns : tie.Need-returns
+returns : the.Tie.Need-returns
 unfolding octetsAt
 returns c = refl
 
-pub padded-spec : {M : Type 1} → statement M
-padded-spec =
-    tie.close
-    (tie.spec
-    (λ c. search needs)
-    (λ c. search needs)
-    (λ c. search needs)
-    (λ c. search needs)
-    (λ c. search needs)
-    (λ c. search needs)
-    (λ c. search needs)
-    (λ c. search needs)
-    returns)
+pub padded-spec : {M : Type 1} → the.Statement.statement M
+padded-spec = the.Tie.close (the.Tie.spec (λ c. search needs) (λ c. search needs) (λ c. search needs) (λ c. search needs) (λ c. search needs) (λ c. search needs) (λ c. search needs) (λ c. search needs) returns)

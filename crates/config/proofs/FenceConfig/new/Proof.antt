@@ -1,11 +1,7 @@
--- `new`: the numbers handed over are those of the record. Assumes nothing.
-use Rattle.octets.proofs.Tools.{needs, free}
+-- `new`: the record of the arguments is answered where it is sound. Assumes nothing.
+use Rattle.codec.proofs.CodecLaws.{refl, free, made-done, made-refused}
 use Rattle.config.proofs.FenceConfig.new as the
 
-returns : the.Tie.Need-returns
-returns c =
-    let second = c .before in
-    rw (← second .before .before .get-u64-le .ensures, ← second .get-u64-le2 .ensures) (c .from-fields .ensures)
-
 pub new-spec : {M : Type 1} → the.Statement.statement M
-new-spec = the.Tie.close (the.Tie.spec (λ c. search needs) free (λ c. search needs) free free returns)
+new-spec = the.Tie.close (the.Tie.spec free free (λ c. made-done (c .before .is-sound .ensures) (c .if1 .taken) (refl, refl))
+    (λ c. made-refused (c .before .before .is-sound .ensures) (c .before .if1 .left) (c .refused .ensures)))

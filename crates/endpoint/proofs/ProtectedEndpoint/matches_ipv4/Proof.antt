@@ -1,30 +1,12 @@
 -- `matches_ipv4`: family, port and address, as in the definition. Assumes nothing.
-use Rattle.octets.proofs.Tools.{needs, eq-eqb, ne-eqb}
-use Rattle.endpoint.specs.Endpoint.{matchesIpv4}
-use Rattle.endpoint.proofs.ProtectedEndpoint.matches_ipv4.Statement.{statement}
-use Rattle.endpoint.proofs.ProtectedEndpoint.matches_ipv4.Tie as tie
+use Rattle.octets.proofs.Tools.{needs, free}
+use Rattle.endpoint.proofs.MatchLaws.{other-family, other-port, by-address}
+use Rattle.endpoint.proofs.ProtectedEndpoint.matches_ipv4 as the
 
-returns : tie.Need-returns
-unfolding matchesIpv4
-returns c = simp (ne-eqb _ _ (c .if1 .taken))
+returns : the.Tie.Need-returns-3
+returns c = let past = c .before .before .before in by-address _ _ _ _ _ (past .before .if1 .left) (past .if2 .left) (c .same .ensures)
 
-returns-2 : tie.Need-returns-2
-unfolding matchesIpv4
-returns-2 c = simp (eq-eqb _ _ (c .before .if1 .left), ne-eqb _ _ (c .if2 .taken))
-
-returns-3 : tie.Need-returns-3
-unfolding matchesIpv4
-returns-3 c =
-    let past = c .before .before .before in
-    simp (eq-eqb _ _ (past .before .if1 .left), eq-eqb _ _ (past .if2 .left)) (c .same .ensures)
-
-pub matches-ipv4-spec : {M : Type 1} → statement M
+pub matches-ipv4-spec : {M : Type 1} → the.Statement.statement M
 matches-ipv4-spec =
-    tie.close
-    (tie.spec
-    returns
-    returns-2
-    (λ c. search needs)
-    (λ c. search needs)
-    (λ c κs. search needs)
-    returns-3)
+    the.Tie.close
+    (the.Tie.spec (λ c. other-family _ _ _ _ _ (c .if1 .taken)) (λ c. other-port _ _ _ _ _ (c .before .if1 .left) (c .if2 .taken)) (λ c. search needs) (λ c. search needs) free returns)
