@@ -1,9 +1,14 @@
 -- Document 01, 'Record layouts': the inner entry of an inspection, a "flag 0 or 1" and a "Cookie value at 48, all zero with flag 0".
 -- Assumes nothing.
-use Rattle.records.specs.Words.{ℕ, Bool, false, cond, List, [], _∷_, eqb, allZero, Codec}
+use Rattle.octets.specs.Words.{ℕ, Bool, true, cond, _||_, List, [], _∷_, eqb}
+use Rattle.codec.specs.Codec.{sound}
+use Rattle.records.specs.CookieValue.{cookieValueCodec, CookieValueFormed}
 use Rattle.inspection.specs.declared.inspected.InspectedEntry.{InspectedEntry}
 use Rattle.inspection.specs.declared.inspected.InspectedEntry.the-variants.{Absent, Present}
-use Rattle.records.specs.CookieValue.{cookieValueCodec}
+
+-- "flag 0 or 1"
+abbrev pub flagListed : ℕ → Bool
+flagListed flag = eqb flag 0 || eqb flag 1
 
 -- the flag of the inner entry, and its six numbers: all zero where there is none
 abbrev pub presentFlag : InspectedEntry → ℕ
@@ -18,15 +23,16 @@ partFields (Present v) = cookieValueCodec .fields v
 abbrev pub partNumbers : InspectedEntry → List ℕ
 partNumbers e = presentFlag e ∷ partFields e
 
--- under a flag, six numbers: flag 0 zeros, flag 1 a cookie value
-unfoldable pub partRule : ℕ → List ℕ → Bool
-partRule flag vs = cond (eqb flag 0) (allZero vs) (cond (eqb flag 1) (cookieValueCodec .ok vs) false)
+-- the inner entry that a flag and accepted numbers stand for
+abbrev pub partOf : ℕ → List ℕ → InspectedEntry
+partOf flag vs = cond (eqb flag 0) Absent (Present (cookieValueCodec .of vs))
 
-abbrev pub partCodec : ℕ → Codec InspectedEntry
-partCodec flag = record {
-  layout = cookieValueCodec .layout;
-  ok = partRule flag;
-  of = λ vs. cond (eqb flag 0) Absent (Present (cookieValueCodec .of vs));
-  fields = partFields;
-  blank = Absent;
-}
+-- an inner entry is sound where there is none, or its cookie value is
+abbrev pub soundPart : InspectedEntry → Bool
+soundPart Absent = true
+soundPart (Present v) = sound cookieValueCodec v
+
+-- a value of its type
+abbrev pub PartFormed : InspectedEntry → Type 0
+PartFormed Absent = Unit {0}
+PartFormed (Present v) = CookieValueFormed v

@@ -1,3 +1,6 @@
--- The definitions that the contracts of `inspection` cite: the codec of the inner entry, and of the whole. Assumes nothing.
+-- The definitions that the contracts of `inspection` cite: the inner entry, the codec of the whole, and what is promised of it.
+-- Assumes nothing.
 pub mod Inspected
 pub mod Inspection
+pub mod Promises
+pub mod Inner

@@ -1,0 +1,15 @@
+-- What is promised of an inspection: the laws of `codec`, and that it is sound where its parts are. Assumes nothing.
+use Rattle.octets.specs.Words.{_≡_, _&&_}
+use Rattle.codec.specs.Codec.{sound}
+use Rattle.codec.specs.Promises.{Laws}
+use Rattle.records.specs.Current.{currentCodec}
+use Rattle.records.specs.Mutation.{mutationCodec}
+use Rattle.inspection.specs.declared.FenceInspection.{FenceInspection}
+use Rattle.inspection.specs.Inspected.{soundPart}
+use Rattle.inspection.specs.Inspection.{inspectionCodec, InspectionFormed}
+
+abbrev pub InspectionLaws : Type 0
+InspectionLaws = Laws inspectionCodec InspectionFormed
+
+abbrev pub InspectionSound : Type 0
+InspectionSound = (v : FenceInspection) → sound inspectionCodec v ≡ (sound currentCodec (v .current) && (sound mutationCodec (v .mutation) && soundPart (v .entry)))
