@@ -8,9 +8,9 @@ use lib.Seq.{take-at}
 use native.Mathlib.Nat.{pow-le-pow-right, lt-of-lt-of-le}
 use Rattle.octets.specs.Octets.{Bytes}
 use Rattle.codec.specs.Layout.{Field, width, size, fieldsAt, laid, Fit}
-use Rattle.codec.specs.Codec.{ok, decodeNumber, decodeValue, roomAnswer, unsoundNumber, written}
+use Rattle.codec.specs.Codec.{ok, decodeNumber, decodeValue, unsoundNumber}
 use Rattle.codec.proofs.LayoutLaws.{laid-fields, fields-laid, length-laid, fit-fields, length-fields}
-use Rattle.codec.proofs.CodecLaws.{accepted-ok, both-hold, room-done, room-given, written-done}
+use Rattle.codec.proofs.CodecLaws.{accepted-ok, room-done, room-given, written-done}
 use Rattle.export.specs.View.{Slot, own, fixed, View, pick, spread, wide, fitting, imageSize, image, numbers, soundImage, imageRefusal, viewDecodeNumber, viewDecodeOut, viewEncodeNumber, viewEncodeOut, ViewDecoded, ViewEncoded}
 use Rattle.export.specs.Promises.{BytesBack, ImageBack, RoundTrips}
 use Rattle.export.proofs.ViewLaws.{Viewable, roomy, length-pick, count-numbers, fit-fitting, fitting-fit, known, taken}

@@ -4,7 +4,7 @@
 pub use Rattle.octets.proofs.Tools.{refl, free, needs}
 pub use lib.Dec.{lit≤}
 use Rattle.octets.specs.Words.{ℕ, suc, _-_, _^_, _<_, _≤_, _≡_, Bool, true, false, cond, _&&_, List, [], _∷_, _++_, length, drop, replicate, eqb, ltb, leb}
-use Rattle.octets.proofs.Tools.{sym, ap, _∙_, arith, eq-eqb, ne-eqb, eqb-true, eqb-false, lt-ltb, le-ltb, ltb-true}
+use Rattle.octets.proofs.Tools.{sym, ap, _∙_, arith, eq-eqb, ne-eqb, eqb-true, lt-ltb, le-ltb, ltb-true}
 use Rattle.octets.proofs.Choices.{and-left, and-right}
 use lib.ListN.{length-replicate, drop-of-length-le}
 use mathlib.Core.List.{append-nil}
@@ -14,7 +14,7 @@ use Rattle.codec.specs.Layout.{Field, width, size, fieldsAt, laid, Fit}
 use Rattle.codec.specs.Inner.Stores.{puts}
 use Rattle.codec.specs.Codec.{Codec, ok, decodeNumber, decodeValue, roomAnswer, unsoundNumber, written}
 use Rattle.codec.proofs.LayoutLaws.{fields-laid, length-laid, puts-laid, put-laid, fit-fields, length-fields, laid-fields}
-use Rattle.codec.proofs.CodecLaws.{Lawful, accepted-ok, room-done, written-done, written-refused}
+use Rattle.codec.proofs.CodecLaws.{Lawful, accepted-ok, room-done}
 use Rattle.export.specs.View.{Slot, own, fixed, View, pick, spread, wide, fitting, imageSize, image, viewDecodeNumber, viewDecodeOut, numbers, cleared, soundImage, imageRefusal, viewEncodeNumber, viewEncodeOut, ViewDecoded, ViewEncoded}
 use Rattle.export.specs.Inner.Steps.{Shown, Stored, shown, stored}
 
