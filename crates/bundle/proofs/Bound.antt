@@ -1,18 +1,17 @@
 -- No listing is longer than 273,060 bytes. Each packet frame takes six bytes of the bundle or more, so there are at most 10,922 of them; a
 -- line has at most 25 bytes, since an ordinal has at most five digits, a name at most fourteen letters, and the header count, at most
 -- four, and the slot one digit each; the last line has at most ten. Assumes nothing.
-use Rattle.octets.specs.Words.{ℕ, _+_, _*_, _<_, _≤_, _≡_, Bool, true, false, _&&_, List, [], _∷_, length, eqb, ltb, leb}
+use Rattle.octets.specs.Words.{ℕ, _+_, _*_, _<_, _≤_, _≡_, Bool, true, false, List, [], _∷_, length, ltb, leb}
 use Rattle.octets.proofs.Tools.{refl, arith, le-leb, ltb-false, leb-true, leb-false}
 use lib.ListN.{length-append}
 use Rattle.text.specs.Text.{ascii, decimalIn, decimal}
 use Rattle.text.proofs.Choices.{pick}
 use Rattle.text.proofs.Digits.{one-digit, few-digits}
-use Rattle.config.specs.Config.{configCodec}
-use Rattle.packet.proofs.Count.{count-at-most-4}
 use Rattle.verdict.specs.Verdict.{slotOf}
 use Rattle.verdict.specs.declared.FenceVerdict.{FenceVerdict}
 use Rattle.verdict.specs.declared.FenceVerdict.the-variants.{PassUnrelated, Allow, DropCookieZero, DropMissing, DropClosed, DropExpired, DropStaleToken, DropMalformed}
-use Rattle.gate.specs.Gate.{Call, decodes, root, differs, answering, endpoint, reading, headersOf}
+use Rattle.gate.specs.Gate.{Call, answering, headersOf}
+use Rattle.gate.proofs.Rules.{count-at-most-4}
 use Rattle.bundle.specs.Feed.{Ending, ended, bad, Feed, Step, stop, skip, emit, onward, noCall, callThen}
 use Rattle.bundle.specs.Frames.{frameAt, State, initial, stepOf, frameStep, leftAt, feedAt, bundleOf}
 use Rattle.bundle.specs.Listing.{nameOf, slotText, line, lastLine, linesBy, sheet, verdictLine, longest, listing, answerOf}
@@ -89,9 +88,7 @@ five-digits : (n : ℕ) → n < 100_000 → length (decimal n) ≤ 5
 five-digits n h = few-digits 4 n h
 
 headers-4 : (c : Call) → headersOf c ≤ 4
-unfolding headersOf
-headers-4 c =
-    pick (λ n. n ≤ 4) (decodes configCodec (c .config) && (eqb (c .attachment) (root c) && differs c)) {x = reading c .headers} {y = 0} (λ e. count-at-most-4 (c .packet) (endpoint c)) (λ e. omega arith)
+headers-4 c = count-at-most-4 c
 
 line-most : (i : ℕ) (v : FenceVerdict) (h : ℕ) → i < 100_000 → h ≤ 4 → length (line i v h) ≤ 25
 unfolding line
