@@ -3,9 +3,9 @@
 -- four, and the slot one digit each; the last line has at most ten. Assumes nothing.
 use Rattle.octets.specs.Words.{ℕ, _+_, _*_, _<_, _≤_, _≡_, Bool, true, false, _&&_, List, [], _∷_, length, eqb, ltb, leb}
 use Rattle.octets.proofs.Tools.{refl, arith, le-leb, ltb-false, leb-true, leb-false}
+use Rattle.octets.proofs.Choices.{pick}
 use lib.ListN.{length-append}
 use Rattle.text.specs.Text.{ascii, decimalIn, decimal}
-use Rattle.text.proofs.Choices.{pick}
 use Rattle.text.proofs.Digits.{one-digit, few-digits}
 use Rattle.config.specs.Config.{configCodec}
 use Rattle.packet.proofs.Count.{count-at-most-4}

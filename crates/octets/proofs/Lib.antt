@@ -4,5 +4,6 @@ pub mod SameLaws
 pub mod LayoutLaws
 pub mod CodecLaws
 pub mod Tools
+pub mod Choices
 pub mod UniqueLaws
 pub mod Unique
