@@ -3,18 +3,16 @@
 -- four, and the slot one digit each; the last line has at most ten. Assumes nothing.
 use Rattle.octets.specs.Words.{ℕ, _+_, _*_, _<_, _≤_, _≡_, Bool, true, false, List, [], _∷_, length, ltb, leb}
 use Rattle.octets.proofs.Tools.{refl, arith, le-leb, ltb-false, leb-true, leb-false}
+use Rattle.octets.proofs.Choices.{pick}
 use lib.ListN.{length-append}
-use Rattle.text.specs.Text.{ascii, decimalIn, decimal}
-use Rattle.text.proofs.Choices.{pick}
+use Rattle.text.specs.Text.{ascii, decimal}
 use Rattle.text.proofs.Digits.{one-digit, few-digits}
-use Rattle.verdict.specs.Verdict.{slotOf}
 use Rattle.verdict.specs.declared.FenceVerdict.{FenceVerdict}
-use Rattle.verdict.specs.declared.FenceVerdict.the-variants.{PassUnrelated, Allow, DropCookieZero, DropMissing, DropClosed, DropExpired, DropStaleToken, DropMalformed}
 use Rattle.gate.specs.Gate.{Call, answering, headersOf}
 use Rattle.gate.proofs.Rules.{count-at-most-4}
 use Rattle.bundle.specs.Feed.{Ending, ended, bad, Feed, Step, stop, skip, emit, onward, noCall, callThen}
 use Rattle.bundle.specs.Frames.{frameAt, State, initial, stepOf, frameStep, leftAt, feedAt, bundleOf}
-use Rattle.bundle.specs.Listing.{nameOf, slotText, line, lastLine, linesBy, sheet, verdictLine, longest, listing, answerOf}
+use Rattle.bundle.specs.Listing.{line, lastLine, linesBy, sheet, verdictLine, longest, listing, answerOf}
 use Rattle.bundle.specs.Promises.{FewCalls, longestListing, Bounded, RoomSuffices}
 use Rattle.bundle.specs.Kinds.{Frame}
 use Rattle.bundle.specs.Kinds as frame

@@ -4,16 +4,14 @@ use Rattle.octets.specs.Words.{ℕ, suc, _+_, _≡_, List, [], _∷_, _++_, len
 use Rattle.octets.proofs.Tools.{refl, sym, ap, _∙_, arith, le-ltb}
 use mathlib.Core.List.{append-assoc}
 use native.Mathlib.Nat.{add-zero}
-use Rattle.text.specs.Text.{ascii, decimalIn}
+use Rattle.text.specs.Text.{ascii}
 use Rattle.text.specs.Promises.{newlines}
 use Rattle.text.proofs.Lines.{newlines-append, no-newline}
-use Rattle.verdict.specs.Verdict.{slotOf}
 use Rattle.verdict.specs.declared.FenceVerdict.{FenceVerdict}
-use Rattle.verdict.specs.declared.FenceVerdict.the-variants.{PassUnrelated, Allow, DropCookieZero, DropMissing, DropClosed, DropExpired, DropStaleToken, DropMalformed}
 use Rattle.gate.specs.Gate.{Call, answering, headersOf}
 use Rattle.bundle.specs.Feed.{Ending, ended, bad}
 use Rattle.bundle.specs.Frames.{bundleOf}
-use Rattle.bundle.specs.Listing.{Line, nameOf, slotText, line, lastLine, linesBy, verdictLine, longest, listing}
+use Rattle.bundle.specs.Listing.{Line, line, lastLine, linesBy, verdictLine, longest, listing}
 use Rattle.bundle.proofs.Names.{printed}
 use Rattle.bundle.specs.Promises.{callLines, LinesThenLast, OneLineEach}
 

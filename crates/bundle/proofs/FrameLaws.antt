@@ -2,11 +2,11 @@
 -- says and then the feed after it. And what the bodies are as parts of the input. Assumes nothing.
 use Rattle.octets.specs.Words.{ℕ, _+_, _-_, _<_, _≤_, _≡_, List, [], _++_, length, take, drop, replicate, eqb, ltb, leb}
 use Rattle.octets.proofs.Tools.{refl, sym, ap, _∙_, arith, le-leb, lt-leb, eqb-true, ltb-false}
+use Rattle.octets.proofs.Choices.{pick}
 use lib.ListN.{length-replicate, replicate-append-replicate}
 use lib.Seq.{take-at}
 use Rattle.octets.specs.Octets.{octetsAt, le}
 use Rattle.octets.proofs.OctetsLaws.{length-octets, octets-drop}
-use Rattle.text.proofs.Choices.{pick}
 use Rattle.gate.specs.Gate.{Answer, gateOf}
 use Rattle.gate.specs.declared.Socket.{Socket}
 use Rattle.bundle.specs.Feed.{Step, stop, skip, emit, onward, noCall, callThen, Less, Falls}

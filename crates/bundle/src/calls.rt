@@ -60,14 +60,19 @@ pub(crate) fn judge(input: &[u8], table: &[u8], cursor: Cursor, packet: &[u8]) -
     let config = body(input, &zeros, cursor.config, FenceConfig::LEN);
     let current = body(input, &zeros, cursor.current, CurrentFenceToken::LEN);
     let call = body(input, &zeros, cursor.call, CALL);
+    let attachment = octets::get_u64_le(call, 0);
+    let socket = socket_of(call);
+    let cookie = octets::get_u64_le(call, 27);
+    let time = octets::get_u64_le(call, 35);
+    let records = first(table, cursor.gathered);
     gate::gate(
         config,
-        RootCgroupId(octets::get_u64_le(call, 0)),
-        socket_of(call),
+        RootCgroupId(attachment),
+        socket,
         packet,
-        SocketCookie(octets::get_u64_le(call, 27)),
+        SocketCookie(cookie),
         current,
-        first(table, cursor.gathered),
-        BootNs(octets::get_u64_le(call, 35)),
+        records,
+        BootNs(time),
     )
 }

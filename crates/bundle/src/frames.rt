@@ -104,12 +104,12 @@ pub(crate) fn next_packet(input: &[u8], table: &mut [u8], from: Cursor) -> Next
         let at = cursor.at;
         match frame_at(input, at) {
             Frame::Config => {
-                cursor.config = at + HEAD;
                 cursor.at = at + (HEAD + FenceConfig::LEN);
+                cursor.config = at + HEAD;
             }
             Frame::Current => {
-                cursor.current = at + HEAD;
                 cursor.at = at + (HEAD + CurrentFenceToken::LEN);
+                cursor.current = at + HEAD;
             }
             Frame::CookieValue => {
                 let body = at + HEAD;
@@ -119,8 +119,8 @@ pub(crate) fn next_packet(input: &[u8], table: &mut [u8], from: Cursor) -> Next
                 cursor.at = end;
             }
             Frame::Call => {
-                cursor.call = at + HEAD;
                 cursor.at = at + (HEAD + CALL);
+                cursor.call = at + HEAD;
             }
             Frame::Packet(len) => {
                 cursor.at = at + (HEAD + len);

@@ -2,13 +2,13 @@
 -- ten that the number reaches, and spell it. Each by induction on the digits. Assumes nothing.
 use Rattle.octets.specs.Words.{ℕ, zero, suc, _+_, _-_, _*_, _/_, _%_, _^_, _<_, _≤_, _≡_, Bool, true, false, cond, List, [], _∷_, _++_, length, take, drop, set, ltb}
 use Rattle.octets.proofs.Tools.{sym, _∙_, refl, arith, lt-ltb, le-ltb}
+use Rattle.octets.proofs.Choices.{pick}
 use mathlib.Core.List.{append-nil}
 use lib.ListN.{length-append, length-set, length-drop, drop-of-length-le}
 use lib.Seq.{take-all, drop-set-lt, drop-cons, getD-set-same, append-snoc}
 use native.Mathlib.Nat.{pow-suc}
 use Rattle.text.specs.Text.{decimalIn, decimal}
 use Rattle.text.specs.Promises.{spelled, ReadsBack, FewDigits}
-use Rattle.text.proofs.Choices.{pick}
 
 -- ---- the digits, the last first
 

@@ -3,6 +3,7 @@
 -- Assumes nothing.
 use Rattle.octets.specs.Words.{ℕ, suc, _+_, _-_, _<_, _≤_, _≡_, Bool, true, false, List, [], _∷_, _++_, length, getD, take, drop, set, ltb}
 use Rattle.octets.proofs.Tools.{refl, sym, ap, _∙_, arith, le-ltb, ltb-true, ltb-false}
+use Rattle.octets.proofs.Choices.{pick}
 use mathlib.Core.List.{append-assoc}
 use lib.ListN.{length-append}
 use lib.Seq.{take-suc, take-suc-set, take-all, drop-drop}
@@ -10,7 +11,6 @@ use Rattle.octets.specs.Octets.{put}
 use Rattle.octets.proofs.OctetsLaws.{put-append, put-past, put-in, length-put}
 use Rattle.text.specs.Text.{lastPlace, after, Wrote}
 use Rattle.text.specs.Promises.{Joins, Measures}
-use Rattle.text.proofs.Choices.{pick}
 
 -- ---- places
 

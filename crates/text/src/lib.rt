@@ -1,6 +1,7 @@
 // Text written at a place of a lent buffer. Every function is total: what would lie past the end is dropped, and the place after it is
 // counted all the same, so the same functions write a text and measure it. Each answers the place after what it wrote.
 ghost use Rattle.octets.specs.Words.{_≤_, _≡_, [], _∷_, length, drop};
+ghost use Rattle.octets.specs.Octets.{put};
 ghost use Rattle.text.specs.Text.{decimal, numbered, after, Wrote};
 
 // The last place, which no slice reaches. A text that would end after it ends there.
@@ -40,8 +41,8 @@ fn fill(room: &mut [u8], text: &[u8])
 }
 
 // A text of which a part has no room, byte by byte.
-fn put_part(out: &mut [u8], at: usize, text: &[u8]) -> usize
-    ensures { λ r. ⌜ Wrote (now (out .entry)) at (now (text .entry)) (now (out .exit)) r ⌝ }
+fn put_part(out: &mut [u8], at: usize, text: &[u8])
+    ensures { λ r. ⌜ now (out .exit) ≡ put (now (out .entry)) at (now (text .entry)) ⌝ }
 {
     let mut to = at;
     let mut i = 0;
@@ -49,7 +50,6 @@ fn put_part(out: &mut [u8], at: usize, text: &[u8]) -> usize
         to = put_byte(out, to, text[i]);
         i += 1;
     }
-    to
 }
 
 // Some bytes, one after the other.
@@ -57,12 +57,13 @@ pub fn put_text(out: &mut [u8], at: usize, text: &[u8]) -> usize
     ensures { λ r. ⌜ Wrote (now (out .entry)) at (now (text .entry)) (now (out .exit)) r ⌝ }
 {
     let end = place_after(at, text.len());
-    // a text that ends before the end has room, and is not at the last place: one test for both
+    // one test for two: a text that ends before the end has room, and its end was counted in full
     if end < out.len() {
         fill(&mut out[at..end], text);
-        return end;
+    } else {
+        put_part(out, at, text);
     }
-    put_part(out, at, text)
+    end
 }
 
 // Writes the digits of a number to the end of `digits`, and answers where they begin.

@@ -6,5 +6,5 @@ use Rattle.text.proofs.put_byte.Tie as tie
 
 pub put-byte-spec : {M : Type 1} → statement M
 put-byte-spec =
-    tie.close (tie.spec free (λ c. byte-past _ _ _ (c .before .if1 .taken) (c .place-after .ensures))
+    tie.close (tie.spec free (λ c. byte-past _ _ _ (omega arith) (c .place-after .ensures))
     (λ c. search needs) (λ c. search needs) (λ c. search needs) (λ c. byte _ _ _ (omega arith)))

@@ -1,6 +1,6 @@
 -- `put_part`: the first i bytes of the text are written. Assumes nothing.
 use Rattle.octets.specs.Words.{_-_, _<_, _≤_, length, take}
-use Rattle.octets.proofs.Tools.{arith, needs, free}
+use Rattle.octets.proofs.Tools.{_∙_, arith, needs, free}
 use lib.Seq.{take-all}
 use Rattle.text.specs.Text.{lastPlace, Wrote}
 use Rattle.text.proofs.TextLaws.{same-length, none-yet, one-more}
@@ -24,7 +24,7 @@ loop-again c =
 returns : tie.Need-returns Inv-loop μ-loop
 returns c =
     let l = c .before in
-    rw (take-all (l .loop .i) (l .before .before .before .args .text .now) (c .loop-test .left)) at (l .loop .inv .1)
+    l .loop .inv .1 .bytes ∙ rw (take-all (l .loop .i) (l .before .before .before .args .text .now) (c .loop-test .left))
 
 pub put-part-spec : {M : Type 1} → statement M
 put-part-spec =

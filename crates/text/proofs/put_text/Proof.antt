@@ -19,5 +19,6 @@ returns c =
 
 pub put-text-spec : {M : Type 1} → statement M
 put-text-spec =
-    tie.close (tie.spec free (λ c. omega (arith, ends c)) (λ c. omega (arith, ends c)) (λ c. search needs) (λ c κs. omega (arith, ends (c .before)))
-    (λ c. search needs) returns free (λ c. search needs) (λ c. search needs))
+    tie.close (tie.spec free (λ c. omega (arith, ends c)) (λ c. omega (arith, ends c)) (λ c. search needs) (λ c κs. omega (arith, ends (c .before))) free
+    (λ c. search needs) returns (λ c. search needs)
+    (λ c. record { bytes = c .before .before .put-part .ensures; past = c .before .before .before .before .before .place-after .ensures }))

@@ -1,5 +1,5 @@
 -- `body`: the bytes lie inside and are that part of the input, or zeros stand for them. Assumes nothing.
-use Rattle.octets.specs.Words.{_+_, _-_, _<_, _≤_, _≡_, length}
+use Rattle.octets.specs.Words.{_+_, _-_, _≤_, _≡_, length}
 use Rattle.octets.proofs.Tools.{sym, _∙_, arith, needs}
 use Rattle.bundle.proofs.FrameLaws.{octets-part, held-in, held-zeros}
 use Rattle.bundle.proofs.calls.body.Statement.{statement}

@@ -7,11 +7,11 @@ use Rattle.bundle.proofs.calls.judge.Tie as tie
 
 returns : tie.Need-returns
 returns c =
-    let tabled = c .before .before in let second = tabled .before in let asked = second .before in let first = asked .before in
+    let tabled = c .before in let timed = tabled .before in let known = timed .before in let asked = known .before in let first = asked .before in
     let called = first .before in let published = called .before .before in let configured = published .before .before in
     let a = configured .before .before .before .before .before .args in
     asked-as (stateOf (a .input .now) (a .cursor) (a .table .now)) _ (c .gate .ensures) (configured .body .ensures) (called .body3 .ensures)
-    (first .get-u64-le .ensures) (asked .socket-of .ensures) (second .get-u64-le2 .ensures) (published .body2 .ensures) (tabled .first .ensures) (c .before .get-u64-le3 .ensures)
+    (first .get-u64-le .ensures) (asked .socket-of .ensures) (known .get-u64-le2 .ensures) (published .body2 .ensures) (tabled .first .ensures) (timed .get-u64-le3 .ensures)
 
 pub judge-spec : {M : Type 1} → statement M
 judge-spec =

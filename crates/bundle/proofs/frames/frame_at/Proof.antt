@@ -5,10 +5,6 @@ use Rattle.bundle.specs.Frames.{lengthAt, past, frameAt}
 use Rattle.bundle.proofs.frames.frame_at.Statement.{statement}
 use Rattle.bundle.proofs.frames.frame_at.Tie as tie
 
-returns : tie.Need-returns
-unfolding frameAt
-returns c = simp (le-leb _ _ (c .if1 .taken))
-
 returns-2 : tie.Need-returns-2
 unfolding frameAt
 returns-2 c =
@@ -34,6 +30,7 @@ returns-4 c =
     simp (lt-leb _ _ (b .before .if1 .left), le-ltb _ _ whole, ← n, ← c .before .get-u16-le .ensures) (c .frame-of .ensures)
 
 pub frame-at-spec : {M : Type 1} → statement M
+unfolding frameAt
 frame-at-spec =
-    tie.close (tie.spec returns (λ c. search needs) returns-2 free (λ c. search needs) returns-3 (λ c. search needs)
+    tie.close (tie.spec (λ c. simp (le-leb _ _ (c .if1 .taken))) (λ c. search needs) returns-2 free (λ c. search needs) returns-3 (λ c. search needs)
     free free returns-4)
