@@ -5,7 +5,7 @@ use Rattle.octets.proofs.Tools.{refl, sym, ap, _∙_, eqb-true}
 use mathlib.Core.Bool.{and-true, and-assoc}
 use mathlib.Core.Path.{subst}
 use lib.Dec.{lit<}
-use Rattle.octets.specs.Octets.{Bytes, octetsAt, le, leBytes}
+use Rattle.octets.specs.Octets.{octetsAt, le, leBytes}
 use Rattle.octets.proofs.OctetsLaws.{length-leBytes, length-octets, octets-whole, le-leBytes, le-below, Bytes-octets}
 use Rattle.codec.specs.Layout.{Fit}
 use Rattle.codec.specs.Codec.{ok}

@@ -1,6 +1,6 @@
 -- What is promised of a configuration: the laws of `codec`, and that its rule is that of the frame and that of its own endpoint.
 -- Assumes nothing.
-use Rattle.octets.specs.Words.{ℕ, _≡_, _&&_, not, eqb}
+use Rattle.octets.specs.Words.{_≡_, _&&_, not, eqb}
 use Rattle.codec.specs.Codec.{sound}
 use Rattle.codec.specs.Promises.{Laws}
 use Rattle.endpoint.specs.Endpoint.{soundEndpoint}

@@ -10,7 +10,7 @@ use mathlib.Core.List.{append-nil}
 use lib.Dec.{lit<}
 use lib.ListN.{length-drop, drop-of-length-le}
 use lib.Seq.{take-all}
-use Rattle.codec.specs.Layout.{Field, laid, Fit}
+use Rattle.codec.specs.Layout.{laid, Fit}
 use Rattle.codec.specs.Codec.{Test, test, passes, shifted, given, ok, sound, bytes}
 use Rattle.codec.specs.Head.{headLayout, headFields}
 use Rattle.codec.proofs.TestLaws.{and-left, and-right, passes-append, passes-shifted, passes-given}

@@ -1,7 +1,7 @@
 -- The inner entry: its numbers tell it, accepted numbers are back from it, and its reader's answer is the rule's, by the two flags.
 -- Assumes nothing.
 use Rattle.octets.specs.Words.{ℕ, _+_, _≤_, _≡_, Bool, true, false, cond, not, _&&_, _||_, List, [], _∷_, map, length, getD, take, drop, replicate, eqb}
-use Rattle.octets.specs.Octets.{octetsAt, le, allZero}
+use Rattle.octets.specs.Octets.{octetsAt, allZero}
 use Rattle.octets.proofs.Tools.{refl, sym, ap, _∙_, true≢false, arith, eqb-true}
 use Rattle.octets.proofs.OctetsLaws.{octets-part, zero-parts, zero-number}
 use mathlib.Core.Bool.{and-true}

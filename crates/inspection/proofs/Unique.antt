@@ -28,11 +28,11 @@ mutation-determined κs a x y u v = as-told
 pub entry-determined : Determined inspection.entry.Kinds.ps inspection.entry.Kinds.r inspection.entry.Reads.Learnt
 entry-determined κs a x y u v = as-numbered partNumbers part-injective x y
 
-pub is-sound-determined : Determined inspection.is_sound.Kinds.ps inspection.is_sound.Kinds.r inspection.is_sound.Reads.Learnt
-is-sound-determined κs a x y u v = as-told
+pub encode-determined : Determined inspection.encode.Kinds.ps inspection.encode.Kinds.r inspection.encode.Reads.Learnt
+encode-determined κs a x y u v = as-encoded u v refl refl
 
 pub decode-determined : Determined inspection.decode.Kinds.ps inspection.decode.Kinds.r inspection.decode.Reads.Learnt
 decode-determined κs a x y u v = as-decoded (λ n v. record { number = n; value = v })
 
-pub encode-determined : Determined inspection.encode.Kinds.ps inspection.encode.Kinds.r inspection.encode.Reads.Learnt
-encode-determined κs a x y u v = as-encoded u v refl refl
+pub is-sound-determined : Determined inspection.is_sound.Kinds.ps inspection.is_sound.Kinds.r inspection.is_sound.Reads.Learnt
+is-sound-determined κs a x y u v = as-told

@@ -2,16 +2,15 @@
 -- (`read`), so the rule on them decides (`decided`); past the frame it is the endpoint's own (`judged`). Assumes nothing.
 use Rattle.octets.specs.Words.{ℕ, _≡_, List, [], _∷_, _++_}
 use Rattle.octets.specs.Octets.{octetsAt, le, leBytes}
-use Rattle.octets.proofs.Tools.{refl, sym, ap, _∙_, free, not-true, not-false}
+use Rattle.octets.proofs.Tools.{refl, sym, _∙_, free, not-true, not-false}
 use mathlib.Core.Path.{subst}
 use denote.Ref.{now}
 use Rattle.codec.specs.Layout.{fieldsAt}
 use Rattle.codec.specs.Codec.{ok, Built, Decoded}
 use Rattle.codec.specs.Head.{headNumbers}
 use Rattle.codec.proofs.CodecLaws.{built-done, built-refused, decode-length, decode-read}
-use Rattle.endpoint.specs.Endpoint.{soundEndpoint}
 use Rattle.config.specs.declared.FenceConfig.{FenceConfig}
-use Rattle.config.specs.Config.{config, configCodec}
+use Rattle.config.specs.Config.{configCodec}
 use Rattle.config.proofs.AddressLaws.{octets-back}
 use Rattle.config.proofs.ConfigLaws.{ruled}
 use Rattle.config.proofs.FenceConfig.decode as the

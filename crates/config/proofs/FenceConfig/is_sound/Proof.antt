@@ -1,5 +1,5 @@
 -- `is_sound`: the record's own parts are asked, which is the rule on its numbers (`config-sound`). Assumes nothing.
-use Rattle.octets.proofs.Tools.{_∙_, sym, free, not-true, not-false, eq-eqb, ne-eqb}
+use Rattle.octets.proofs.Tools.{free, not-true, not-false, eq-eqb, ne-eqb}
 use mathlib.Core.Bool.{and-false}
 use Rattle.config.proofs.ConfigLaws.{config-sound}
 use Rattle.config.proofs.Held.{held}

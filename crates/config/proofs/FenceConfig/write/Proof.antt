@@ -1,5 +1,5 @@
 -- `write`: the head, then one store for each field, in the order of the layout; the address in two halves. Assumes nothing.
-use Rattle.octets.specs.Words.{[], _∷_, drop}
+use Rattle.octets.specs.Words.{drop}
 use Rattle.octets.proofs.Tools.{refl, _∙_, needs, free}
 use Rattle.codec.specs.Head.{headLayout, headFields}
 use Rattle.codec.proofs.LayoutLaws.{puts-laid, put-two}

@@ -1,5 +1,5 @@
 -- `ipv4` hands the padded address to `checked`. Assumes nothing.
-use Rattle.octets.proofs.Tools.{needs, free}
+use Rattle.octets.proofs.Tools.{free}
 use Rattle.endpoint.proofs.ProtectedEndpoint.ipv4 as the
 
 returns : the.Tie.Need-returns

@@ -1,6 +1,6 @@
 -- `decode`: the tests are the rule's, in its order. `rest2` to `rest5` say what of the rule is left where a test was passed; each part's
 -- decoder answers as the rule on its numbers does (`part-built`). Assumes nothing.
-use Rattle.octets.specs.Words.{ℕ, _≤_, _≡_, true, false, List, _&&_, length, getD, take, drop, eqb}
+use Rattle.octets.specs.Words.{ℕ, _≡_, true, false, List, getD, take, drop, eqb}
 use Rattle.octets.specs.Octets.{octetsAt, le}
 use Rattle.octets.proofs.Tools.{refl, sym, ap, _∙_, needs, free, arith, not-true, not-false}
 use Rattle.octets.proofs.OctetsLaws.{zero-number}
@@ -57,13 +57,13 @@ rest2 a = holds (passes frontTests (numbers (at2 a))) (fromCurrent (numbers (at2
 current : (a : the.Tie.After-decode) → Built currentCodec (fieldsAt (currentCodec .layout) (bytes (at2 (a .before .before))) 8) (a .decode .result .number) (a .decode .result .value)
 current a = let long = at2 (a .before .before) .if1 .left in part-built currentCodec (bytes (at2 (a .before .before))) 8 (omega arith) (a .decode .ensures)
 
+mutation : (a : the.Tie.After-decode2) → Built mutationCodec (fieldsAt (mutationCodec .layout) (bytes (at3 (a .before .before))) 32) (a .decode2 .result .number) (a .decode2 .result .value)
+mutation a = let long = at3 (a .before .before) .if1 .left in part-built mutationCodec (bytes (at3 (a .before .before))) 32 (omega arith) (a .decode2 .ensures)
+
 rest3 : (a : the.Tie.Else3) → ok inspectionCodec (numbers (at3 a)) ≡ fromMutation (numbers (at3 a))
 rest3 a =
     let d = a .before .before in
     holds (passes (currentCodec .tests) (drop 4 (numbers (at3 a)))) (fromMutation (numbers (at3 a))) (rest2 (d .before .before)) (done-ok (current d) (a .if3 .left))
-
-mutation : (a : the.Tie.After-decode2) → Built mutationCodec (fieldsAt (mutationCodec .layout) (bytes (at3 (a .before .before))) 32) (a .decode2 .result .number) (a .decode2 .result .value)
-mutation a = let long = at3 (a .before .before) .if1 .left in part-built mutationCodec (bytes (at3 (a .before .before))) 32 (omega arith) (a .decode2 .ensures)
 
 rest4 : (a : the.Tie.Else4) → ok inspectionCodec (numbers (at4 a)) ≡ fromPart (numbers (at4 a))
 rest4 a =

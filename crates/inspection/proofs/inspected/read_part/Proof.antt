@@ -1,6 +1,6 @@
 -- `read_part`: by the flag, as in the definitions. Assumes nothing.
 use Rattle.octets.specs.Words.{eqb}
-use Rattle.octets.proofs.Tools.{refl, ap, free, eq-eqb, ne-eqb}
+use Rattle.octets.proofs.Tools.{ap, free, eq-eqb, ne-eqb}
 use Rattle.inspection.specs.declared.inspected.InspectedEntry.the-variants.{Present}
 use Rattle.inspection.specs.Inner.Steps.{partTaken, partRead}
 use Rattle.inspection.proofs.inspected.read_part as the
