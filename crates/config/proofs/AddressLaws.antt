@@ -2,7 +2,7 @@
 -- the others back. By the laws of octets over the width. Assumes nothing.
 use Rattle.octets.specs.Words.{ℕ, _+_, _≡_, List, _++_, length, replicate}
 use Rattle.octets.specs.Octets.{Bytes, octetsAt, put, le, leBytes}
-use Rattle.octets.proofs.Tools.{refl, sym, _∙_}
+use Rattle.octets.proofs.Tools.{refl, sym, ap, _∙_}
 use Rattle.octets.proofs.OctetsLaws.{length-octets, length-leBytes, octets-append, octets-whole, leBytes-le, Bytes-octets, put-append}
 
 -- octets of a slice, from their number
@@ -16,14 +16,15 @@ address-back a e h = octets-back a 0 16 h ∙ octets-whole a 16 e
 halves : (s : List ℕ) (at : ℕ) → Bytes s → octetsAt s at 16 ≡ leBytes 8 (le (octetsAt s at 8)) ++ leBytes 8 (le (octetsAt s (at + 8) 8))
 halves s at h = rw (octets-back s at 8 h, octets-back s (at + 8) 8 h) (octets-append s at 8 8)
 
--- read so, and stored into sixteen zeros
 in-zeros : (a b : ℕ) → put (put (replicate 16 0) 0 (leBytes 8 a)) 8 (leBytes 8 b) ≡ leBytes 8 a ++ leBytes 8 b
 unfolding put leBytes
 in-zeros a b = refl
 
-pub read-halves : (s : List ℕ) (at : ℕ) → Bytes s →
-    put (put (replicate 16 0) 0 (leBytes 8 (le (octetsAt s at 8)))) 8 (leBytes 8 (le (octetsAt s (at + 8) 8))) ≡ octetsAt s at 16
-read-halves s at h = in-zeros (le (octetsAt s at 8)) (le (octetsAt s (at + 8) 8)) ∙ sym (halves s at h)
+-- read so, and stored into sixteen zeros
+pub read-halves : (s : List ℕ) (at : ℕ) {a b : ℕ} {d e : List ℕ} → Bytes s → a ≡ le (octetsAt s at 8) → b ≡ le (octetsAt s (at + 8) 8) →
+    d ≡ put (replicate 16 0) 0 (leBytes 8 a) → e ≡ put d 8 (leBytes 8 b) → e ≡ octetsAt s at 16
+read-halves s at {a} {b} h p q f g =
+    g ∙ ap (λ l. put l 8 (leBytes 8 b)) f ∙ in-zeros a b ∙ (λ i. leBytes 8 (p i) ++ leBytes 8 (q i)) ∙ sym (halves s at h)
 
 -- and written so
 pub put-halves : (a d : List ℕ) (at : ℕ) → Bytes a →

@@ -6,8 +6,9 @@ use Rattle.config.proofs.address_at as the
 returns : the.Tie.Need-returns
 returns c =
     let stored = c .before in let first = stored .before .before .before in let read = first .before .before in
-    rw (stored .put-u64-le2 .ensures, first .put-u64-le .ensures, read .get-u64-le2 .ensures, read .before .get-u64-le .ensures)
-    (read-halves _ 24 (λ k. read .before .before .shared-slice-known .given k .fits))
+    let known = read .before .before in
+    read-halves (known .before .args .s .now) 24 (λ k. known .shared-slice-known .given k .fits) (read .before .get-u64-le .ensures) (read .get-u64-le2 .ensures)
+    (first .put-u64-le .ensures) (stored .put-u64-le2 .ensures)
 
 pub address-at-spec : {M : Type 1} → the.Statement.statement M
 address-at-spec = the.Tie.close (the.Tie.spec free free (λ c. search needs) free (λ c. search needs) free returns)
