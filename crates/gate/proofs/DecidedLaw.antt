@@ -10,7 +10,8 @@ use Rattle.octets.proofs.Choices.{and-right}
 use Rattle.records.specs.Current.{currentCodec}
 use Rattle.records.specs.Entry.{closed}
 use Rattle.records.specs.CookieValue.{cookieValueCodec, entryOf}
-use Rattle.packet.specs.Reading.{Disposition, protected, isUnrelated, isIndeterminate}
+use Rattle.packet.specs.Reading.{Disposition, protected}
+use Rattle.packet.specs.Answers.{isUnrelated, isIndeterminate}
 use Rattle.packet.proofs.Unique.{disposition-forth}
 use Rattle.verdict.specs.Verdict.{slotOf, staleAuthority, entryVerdict, registeredVerdict, protectedVerdict, egressVerdict}
 use Rattle.verdict.specs.declared.CounterSlot.{CounterSlot}

@@ -11,7 +11,8 @@ use Rattle.records.specs.CookieValue.{cookieValueCodec}
 use Rattle.config.specs.declared.FenceConfig.{FenceConfig}
 use Rattle.records.specs.declared.current.CurrentFenceToken.{CurrentFenceToken}
 use Rattle.records.specs.declared.cookie_value.FenceCookieValue.{FenceCookieValue}
-use Rattle.packet.specs.Reading.{Answer as Reading, protected, isUnrelated, isIndeterminate, stop, classifyOf}
+use Rattle.packet.specs.Reading.{Answer as Reading, protected, stop, classifyOf}
+use Rattle.packet.specs.Answers.{isUnrelated, isIndeterminate}
 use Rattle.verdict.specs.Verdict.{slotOf}
 use Rattle.verdict.specs.declared.FenceVerdict.{FenceVerdict}
 use Rattle.verdict.specs.declared.FenceVerdict.the-variants.{PassUnrelated, Allow, DropCookieZero, DropMissing, DropClosed, DropExpired, DropStaleToken, DropMalformed}

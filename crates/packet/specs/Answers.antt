@@ -1,10 +1,23 @@
 -- What the answer's types stand for: a disposition as the definitions have it, its number, and the answer of the definitions. Assumes
 -- nothing.
-use Rattle.octets.specs.Words.{ℕ, cond, eqb}
-use Rattle.packet.specs.Reading.{Disposition, protected, unrelated, indeterminate, byDisposition, Answer}
+use Rattle.octets.specs.Words.{ℕ, Bool, true, false, cond, eqb}
+use Rattle.packet.specs.Reading.{Disposition, protected, unrelated, indeterminate, Answer}
 use Rattle.packet.specs.declared.PacketEndpointDisposition.{PacketEndpointDisposition}
 use Rattle.packet.specs.declared.PacketEndpointDisposition.the-variants.{Protected, Unrelated, Indeterminate}
 use Rattle.packet.specs.declared.PacketReading.{PacketReading}
+
+-- one of three things, by the disposition
+abbrev pub byDisposition : {A : Type 0} → Disposition → A → A → A → A
+byDisposition protected p u i = p
+byDisposition unrelated p u i = u
+byDisposition indeterminate p u i = i
+
+-- 01's rules 3 and 4: "packet Unrelated", "packet Indeterminate"
+abbrev pub isUnrelated : Disposition → Bool
+isUnrelated d = byDisposition d false true false
+
+abbrev pub isIndeterminate : Disposition → Bool
+isIndeterminate d = byDisposition d false false true
 
 -- the three cases of packet.rs, which 01's 'Reading a packet' names
 abbrev pub dispositionOf : PacketEndpointDisposition → Disposition

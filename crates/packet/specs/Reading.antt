@@ -14,19 +14,6 @@ pub data Disposition : Type 0 where
   unrelated : Disposition
   indeterminate : Disposition
 
--- one of three things, by the disposition
-abbrev pub byDisposition : {A : Type 0} → Disposition → A → A → A → A
-byDisposition protected p u i = p
-byDisposition unrelated p u i = u
-byDisposition indeterminate p u i = i
-
--- 01's rules 3 and 4: "packet Unrelated", "packet Indeterminate"
-abbrev pub isUnrelated : Disposition → Bool
-isUnrelated d = byDisposition d false true false
-
-abbrev pub isIndeterminate : Disposition → Bool
-isIndeterminate d = byDisposition d false false true
-
 -- an answer: the disposition, and the number of extension headers passed
 pub record Answer : Type 0 where
   pub disposition : Disposition

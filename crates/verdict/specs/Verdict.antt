@@ -1,7 +1,6 @@
 -- The egress verdict: 01's slots, and the order and tests of lib.rs's `decide_egress`. Assumes nothing.
 use Rattle.octets.specs.Words.{ℕ, Bool, false, cond, not, _&&_, _||_, List, [], _∷_, eqb, leb}
-use Rattle.packet.specs.Reading.{isUnrelated, isIndeterminate}
-use Rattle.packet.specs.Answers.{dispositionOf}
+use Rattle.packet.specs.Answers.{isUnrelated, isIndeterminate, dispositionOf}
 use Rattle.records.specs.Entry.{closed}
 use Rattle.records.specs.declared.entry.FenceEntry.{FenceEntry}
 use Rattle.verdict.specs.declared.FenceVerdict.{FenceVerdict}

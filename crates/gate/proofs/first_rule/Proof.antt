@@ -4,8 +4,7 @@ use Rattle.octets.specs.Words.{_≡_, false, not, eqb}
 use Rattle.octets.proofs.Tools.{refl, sym, ap, _∙_, needs, free}
 use denote.Ref.{now}
 use Rattle.config.specs.Config.{configCodec}
-use Rattle.packet.specs.Reading.{isUnrelated, isIndeterminate}
-use Rattle.packet.specs.Answers.{dispositionOf, answerOf}
+use Rattle.packet.specs.Answers.{isUnrelated, isIndeterminate, dispositionOf, answerOf}
 use Rattle.packet.specs.declared.PacketEndpointDisposition.{PacketEndpointDisposition}
 use Rattle.packet.specs.declared.PacketEndpointDisposition.the-variants.{Protected, Unrelated, Indeterminate}
 use Rattle.gate.specs.Gate.{Call, given, configuration, endpoint, viewOf, rules, answering}
