@@ -63,13 +63,17 @@ fn is_unspecified(address: [u8; 16]) -> bool
 fn usable_ipv6(address: [u8; 16]) -> bool
     ensures { λ r. ⌜ r ≡ usableIpv6 address ⌝ }
 {
-    if is_unspecified(address) {
-        return false;
-    }
     if address[0] == 0xff {
         return false;
     }
     if is_link_local(address) {
+        return false;
+    }
+    // Neither :: nor IPv4-mapped, as most are.
+    if !prefix_is_zero(address) {
+        return true;
+    }
+    if is_unspecified(address) {
         return false;
     }
     !is_ipv4_mapped(address)
