@@ -1,6 +1,6 @@
 // The protected endpoint: the one UDP source address and port that a fence guards.
 ghost use Rattle.octets.specs.Words.{_≡_, _++_, replicate};
-ghost use Rattle.octets.specs.Octets.{octetsAt};
+ghost use Rattle.octets.specs.Octets.{octetsAt, allZero};
 ghost use Rattle.endpoint.specs.Endpoint.{usableIpv4, usableIpv6, linkLocal, ipv4Mapped, soundEndpoint, made, ipv4Of, ipv6Of, matchesIpv4, matchesIpv6};
 
 // Addresses in network order.
@@ -37,28 +37,53 @@ fn is_link_local(address: [u8; 16]) -> bool
     address[0] == 0xfe && address[1] / 64 == 2
 }
 
+// Whether the bytes before the ff ff of an IPv4-mapped address are zero.
+fn prefix_is_zero(address: [u8; 16]) -> bool
+    ensures { λ r. ⌜ r ≡ allZero (octetsAt address 0 10) ⌝ }
+{
+    (octets::get_u64_le(&address, 0) == 0) & (octets::get_u16_le(&address, 8) == 0)
+}
+
 fn is_ipv4_mapped(address: [u8; 16]) -> bool
     ensures { λ r. ⌜ r ≡ ipv4Mapped address ⌝ }
 {
-    if !octets::is_zero(&address, 0, 10) {
+    if !prefix_is_zero(address) {
         return false;
     }
     address[10] == 0xff && address[11] == 0xff
 }
 
+// Whether the address is ::, all zero.
+fn is_unspecified(address: [u8; 16]) -> bool
+    ensures { λ r. ⌜ r ≡ allZero (octetsAt address 0 16) ⌝ }
+{
+    (octets::get_u64_le(&address, 0) == 0) & (octets::get_u64_le(&address, 8) == 0)
+}
+
 fn usable_ipv6(address: [u8; 16]) -> bool
     ensures { λ r. ⌜ r ≡ usableIpv6 address ⌝ }
 {
-    if octets::is_zero(&address, 0, 16) {
-        return false;
-    }
     if address[0] == 0xff {
         return false;
     }
     if is_link_local(address) {
         return false;
     }
+    // Neither :: nor IPv4-mapped, as most are.
+    if !prefix_is_zero(address) {
+        return true;
+    }
+    if is_unspecified(address) {
+        return false;
+    }
     !is_ipv4_mapped(address)
+}
+
+// Whether the bytes after an IPv4 address are zero.
+fn spare_is_zero(address: [u8; 16]) -> bool
+    ensures { λ r. ⌜ r ≡ allZero (octetsAt address 4 12) ⌝ }
+{
+    (octets::get_u32_le(&address, 4) == 0) & (octets::get_u64_le(&address, 8) == 0)
 }
 
 // An IPv4 address in its place, the spare bytes zero.
@@ -91,7 +116,7 @@ impl ProtectedEndpoint {
         match family {
             4 => {
                 if usable_ipv4(address) {
-                    octets::is_zero(&address, 4, 12)
+                    spare_is_zero(address)
                 } else {
                     false
                 }

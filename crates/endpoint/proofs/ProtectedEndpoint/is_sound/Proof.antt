@@ -11,8 +11,8 @@ returns c = simp (eq-eqb _ _ (c .if1 .taken))
 returns-2 : the.Tie.Need-returns-2
 unfolding soundEndpoint addressUsable spareZero
 returns-2 c =
-    let ipv4 = c .before .before .before .before in
-    simp (ne-eqb _ _ (ipv4 .before .if1 .left), eq-eqb _ _ (ipv4 .match .keys1), ← c .before .before .before .usable-ipv4 .ensures, c .before .before .if2 .taken) (c .is-zero .ensures)
+    let ipv4 = c .before .before .before in
+    simp (ne-eqb _ _ (ipv4 .before .if1 .left), eq-eqb _ _ (ipv4 .match .keys1), ← c .before .before .usable-ipv4 .ensures, c .before .if2 .taken) (c .spare-is-zero .ensures)
 
 returns-3 : the.Tie.Need-returns-3
 unfolding soundEndpoint addressUsable
@@ -29,4 +29,4 @@ unfolding soundEndpoint
 returns-5 c = simp (ne-eqb _ _ (c .before .if1 .left), ne-eqb _ _ (c .match .rest .0 .1), ne-eqb _ _ (c .match .rest .1))
 
 pub is-sound-spec : {M : Type 1} → the.Statement.statement M
-is-sound-spec = the.Tie.close (the.Tie.spec returns free (λ c. search needs) free free returns-2 returns-3 returns-4 returns-5)
+is-sound-spec = the.Tie.close (the.Tie.spec returns free free free returns-2 returns-3 returns-4 returns-5)
