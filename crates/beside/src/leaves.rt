@@ -1,20 +1,10 @@
 // Queries 1 to 5: deadlines, and the endpoint's constructors and match tests. Each puts its answer at a place of `out` and answers how
 // long it is, or 0 where the body has not the query's length.
 use crate::fields;
-use deadline::RefreshDeadlineDecision;
 use endpoint::EndpointAnswer;
 use endpoint::ProtectedEndpoint;
 use units::BootNs;
 ghost use Rattle.octets.specs.Words.{_≤_};
-
-fn decision_number(decision: RefreshDeadlineDecision) -> u8 {
-    match decision {
-        RefreshDeadlineDecision::PriorExpired => 0,
-        RefreshDeadlineDecision::RequestedDeadlineInvalid => 1,
-        RefreshDeadlineDecision::DeadlineRegressed => 2,
-        RefreshDeadlineDecision::Apply => 3,
-    }
-}
 
 // Query 1: the clock, the prior and the requested deadline. The answer is 01's number of the decision.
 pub(crate) fn answer_deadline(body: &[u8], out: &mut [u8], at: usize) -> usize
@@ -27,7 +17,7 @@ pub(crate) fn answer_deadline(body: &[u8], out: &mut [u8], at: usize) -> usize
     let prior = BootNs(octets::get_u64_le(body, 8));
     let requested = BootNs(octets::get_u64_le(body, 16));
     let decision = deadline::evaluate_refresh_deadlines(observed, prior, requested);
-    octets::put_u8(out, at, decision_number(decision));
+    octets::put_u8(out, at, decision.number());
     1
 }
 

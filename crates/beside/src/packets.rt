@@ -1,15 +1,6 @@
 // Query 8: an endpoint, and a packet of any length. The answer is the disposition's number and the number of extension headers passed.
 use crate::leaves;
-use packet::PacketEndpointDisposition;
 ghost use Rattle.octets.specs.Words.{_≤_};
-
-pub(crate) fn disposition_number(disposition: PacketEndpointDisposition) -> u8 {
-    match disposition {
-        PacketEndpointDisposition::Protected => 0,
-        PacketEndpointDisposition::Unrelated => 1,
-        PacketEndpointDisposition::Indeterminate => 2,
-    }
-}
 
 pub(crate) fn answer_packet(body: &[u8], out: &mut [u8], at: usize) -> usize
     requires { ⌜ at ≤ 65536 ⌝ }
@@ -21,7 +12,7 @@ pub(crate) fn answer_packet(body: &[u8], out: &mut [u8], at: usize) -> usize
     let endpoint = leaves::endpoint_of(body);
     let reading = packet::classify_l3_udp_source(&body[19..], endpoint);
     let disposition = reading.disposition;
-    octets::put_u8(out, at, disposition_number(disposition));
+    octets::put_u8(out, at, disposition.number());
     octets::put_u8(out, at + 1, reading.headers);
     2
 }

@@ -7,20 +7,11 @@ use units::BootNs;
 use units::ControlEpoch;
 use units::DurableFenceToken;
 use units::SocketCookie;
-use verdict::CounterSlot;
 use verdict::FenceAuthoritySnapshot;
 use verdict::FenceVerdict;
 use verdict::PacketFenceContext;
 use verdict::RegisteredEntry;
 ghost use Rattle.octets.specs.Words.{_≤_};
-
-fn disposition_of(number: u8) -> PacketEndpointDisposition {
-    match number {
-        0 => PacketEndpointDisposition::Protected,
-        1 => PacketEndpointDisposition::Unrelated,
-        _ => PacketEndpointDisposition::Indeterminate,
-    }
-}
 
 fn state_of(number: u8) -> FenceEntryState {
     match number {
@@ -49,7 +40,7 @@ fn context_of(body: &[u8]) -> PacketFenceContext {
     PacketFenceContext::new(
         octets::get_u8(body, 0) != 0,
         octets::get_u8(body, 1) != 0,
-        disposition_of(octets::get_u8(body, 2)),
+        PacketEndpointDisposition::of_number(octets::get_u8(body, 2)),
         SocketCookie(octets::get_u64_le(body, 3)),
     )
 }
@@ -63,18 +54,11 @@ fn authority_of(body: &[u8]) -> FenceAuthoritySnapshot {
     )
 }
 
-fn slot_number(slot: CounterSlot) -> u8 {
-    match slot {
-        CounterSlot::Uncounted => 255,
-        CounterSlot::Slot(number) => (number % 256) as u8,
-    }
-}
-
 // A verdict: its slot, and whether the packet must be dropped.
 pub(crate) fn put_verdict(verdict: FenceVerdict, out: &mut [u8], at: usize)
     requires { ⌜ at ≤ 65536 ⌝ }
 {
-    octets::put_u8(out, at, slot_number(verdict.counter_slot()));
+    octets::put_u8(out, at, verdict.slot_number());
     octets::put_u8(out, at + 1, verdict.must_drop() as u8);
 }
 

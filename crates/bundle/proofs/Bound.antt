@@ -1,34 +1,26 @@
 -- No listing is longer than 273,060 bytes. Each packet frame takes six bytes of the bundle or more, so there are at most 10,922 of them; a
 -- line has at most 25 bytes, since an ordinal has at most five digits, a name at most fourteen letters, and the header count, at most
 -- four, and the slot one digit each; the last line has at most ten. Assumes nothing.
-use Rattle.octets.specs.Words.{ℕ, zero, suc, _+_, _*_, _-_, _/_, _%_, _^_, _<_, _≤_, _≡_, Bool, true, false, _&&_, List, [], _∷_, _++_, length, eqb, ltb, leb}
-use Rattle.octets.proofs.Tools.{refl, arith, le-leb, lt-ltb, ltb-false, leb-true, leb-false}
-use native.Mathlib.Nat.{pow-suc}
+use Rattle.octets.specs.Words.{ℕ, _+_, _*_, _<_, _≤_, _≡_, Bool, true, false, List, [], _∷_, length, ltb, leb}
+use Rattle.octets.proofs.Tools.{refl, arith, le-leb, ltb-false, leb-true, leb-false}
+use Rattle.octets.proofs.Choices.{pick}
 use lib.ListN.{length-append}
-use Rattle.config.specs.Config.{configCodec}
-use Rattle.packet.proofs.Count.{count-at-most-4}
-use Rattle.verdict.specs.Verdict.{slotOf}
+use Rattle.text.specs.Text.{ascii, decimal}
+use Rattle.text.proofs.Digits.{one-digit, few-digits}
 use Rattle.verdict.specs.declared.FenceVerdict.{FenceVerdict}
-use Rattle.verdict.specs.declared.FenceVerdict.the-variants.{PassUnrelated, Allow, DropCookieZero, DropMissing, DropClosed, DropExpired, DropStaleToken, DropMalformed}
-use Rattle.gate.specs.Gate.{Call, decodes, root, differs, answering, endpoint, reading, headersOf}
-use Rattle.bundle.specs.Feed.{Ending, ended, bad, Feed, Step, stop, skip, emit, onward, runIn, run}
+use Rattle.gate.specs.Gate.{Call, answering, headersOf}
+use Rattle.gate.proofs.Rules.{count-at-most-4}
+use Rattle.bundle.specs.Feed.{Ending, ended, bad, Feed, Step, stop, skip, emit, onward, noCall, callThen}
 use Rattle.bundle.specs.Frames.{frameAt, State, initial, stepOf, frameStep, leftAt, feedAt, bundleOf}
-use Rattle.bundle.specs.Text.{ascii, decimalIn, decimal}
-use Rattle.bundle.specs.Listing.{nameOf, slotText, line, lastLine, linesBy, sheet, verdictLine, longest, listing, answerOf}
-use Rattle.bundle.specs.Promises.{longestListing, Bounded, RoomSuffices}
+use Rattle.bundle.specs.Listing.{line, lastLine, linesBy, sheet, verdictLine, longest, listing, answerOf}
+use Rattle.bundle.specs.Promises.{FewCalls, longestListing, Bounded, RoomSuffices}
 use Rattle.bundle.specs.Kinds.{Frame}
 use Rattle.bundle.specs.Kinds as frame
-use Rattle.bundle.proofs.Choices.{pick}
-use Rattle.bundle.proofs.TextLaws.{one-digit}
-use Rattle.bundle.proofs.FrameLaws.{size, left-size, nothing-left}
+use Rattle.bundle.proofs.Names.{printed}
+use Rattle.bundle.proofs.FeedLaws.{read-keeps}
+use Rattle.bundle.proofs.FrameLaws.{nothing-left, Takes, frame-takes}
 
 -- ---- how many calls a feed has, and where its fault can be, for any reader
-
--- a step that leaves at most m, and six less where it makes a call
-abbrev Takes : {A : Type 0} → (A → ℕ) → ℕ → Step A → Type 0
-Takes left m (stop e) = Unit {0}
-Takes left m (skip a) = left a ≤ m
-Takes left m (emit c a) = 6 + left a ≤ m
 
 -- an end, or a fault at an offset of at most m
 abbrev EndsBy : ℕ → Ending → Type 0
@@ -40,40 +32,20 @@ StopsBy m (stop e) = EndsBy m e
 StopsBy m (skip a) = Unit {0}
 StopsBy m (emit c a) = Unit {0}
 
-few-on : {A : Type 0} (go : A → Feed) (left : A → ℕ) (m : ℕ) → ((a : A) → 6 * length (go a .calls) ≤ left a) → (x : Step A) → Takes left m x → 6 * length (onward go x .calls) ≤ m
+few-on : {A : Type 0} (go : A → Feed A) (left : A → ℕ) → ((a : A) → 6 * length (go a .calls) ≤ left a) → (m : ℕ) (a : A) (x : Step A) → Takes left m x →
+    6 * length (onward noCall callThen go a x .calls) ≤ m
 unfolding onward
-few-on go left m f (stop e) h = omega arith
-few-on go left m f (skip a) h = omega (arith, f a)
-few-on go left m f (emit c a) h = omega (arith, f a)
+few-on go left f m a (stop e) h = omega arith
+few-on go left f m a (skip b) h = omega (arith, f b)
+few-on go left f m a (emit c b) h = omega (arith, f b)
 
-ends-on : {A : Type 0} (go : A → Feed) (m : ℕ) → ((a : A) → EndsBy m (go a .ending)) → (x : Step A) → StopsBy m x → EndsBy m (onward go x .ending)
+ends-on : {A : Type 0} (m : ℕ) (go : A → Feed A) → ((a : A) → EndsBy m (go a .ending)) → (a : A) (x : Step A) → StopsBy m x → EndsBy m (onward noCall callThen go a x .ending)
 unfolding onward
-ends-on go m f (stop e) h = h
-ends-on go m f (skip a) h = f a
-ends-on go m f (emit c a) h = f a
-
-module _ {A : Type 0} (step : A → Step A) (left : A → ℕ) where
-  few : ((a : A) → Takes left (left a) (step a)) → (n : ℕ) (a : A) → 6 * length (runIn step n a .calls) ≤ left a
-  unfolding runIn
-  few h zero a = omega arith
-  few h (suc n) a = few-on (runIn step n) left (left a) (few h n) (step a) (h a)
-
-  ends : (m : ℕ) → ((a : A) → StopsBy m (step a)) → (n : ℕ) (a : A) → EndsBy m (runIn step n a .ending)
-  unfolding runIn
-  ends m h zero a = tt
-  ends m h (suc n) a = ends-on (runIn step n) m (ends m h n) (step a) (h a)
+ends-on m go f a (stop e) h = h
+ends-on m go f a (skip b) h = f b
+ends-on m go f a (emit c b) h = f b
 
 -- ---- the same of a bundle
-
-takes : (s : List ℕ) (at : ℕ) (st : State) (x : Frame) → size x ≤ length s - at → Takes (leftAt s) (length s - at) (stepOf s at st x)
-unfolding stepOf size
-takes s at st frame.Config h = omega arith
-takes s at st frame.Current h = omega arith
-takes s at st frame.CookieValue h = omega arith
-takes s at st frame.Call h = omega arith
-takes s at st (frame.Packet n) h = omega arith
-takes s at st frame.End h = tt
-takes s at st frame.Bad h = tt
 
 -- past the end there is no bad frame
 stops : (s : List ℕ) (at : ℕ) (st : State) (x : Frame) → (length s ≤ at → x ≡ frame.End) → StopsBy (length s) (stepOf s at st x)
@@ -93,64 +65,34 @@ stops s at st frame.Bad h = by-place (leb (length s) at) refl
         absurd (omega arith)
     by-place false e = omega (arith, leb-false (length s) at e)
 
-pub few-calls : (s : List ℕ) → 6 * length (bundleOf s .calls) ≤ length s
-unfolding bundleOf feedAt run
+pub few-calls : FewCalls
+unfolding bundleOf feedAt
 few-calls s =
-    let h : 6 * length (bundleOf s .calls) ≤ length s - 0 =
-    few (frameStep s) (leftAt s) (λ p. takes s (p .at) (p .state) (frameAt s (p .at)) (left-size s (p .at))) (suc (length s - 0)) (record { at = 0; state = initial }) in
-    omega arith
+    omega (
+      arith,
+      read-keeps noCall callThen (frameStep s) (leftAt s) (λ p f. 6 * length (f .calls) ≤ leftAt s p) (λ p. omega arith)
+          (λ go h p. few-on go (leftAt s) h (leftAt s p) p (frameStep s p) (frame-takes s p)) (record { at = 0; state = initial }),
+    )
 
 ends-inside : (s : List ℕ) → EndsBy (length s) (bundleOf s .ending)
-unfolding bundleOf feedAt run
+unfolding bundleOf feedAt
 ends-inside s =
-    ends (frameStep s) (leftAt s) (length s) (λ p. stops s (p .at) (p .state) (frameAt s (p .at)) (nothing-left s (p .at))) (suc (length s - 0)) (record { at = 0; state = initial })
+    read-keeps noCall callThen (frameStep s) (leftAt s) (λ p f. EndsBy (length s) (f .ending)) (λ p. tt)
+    (λ go h p. ends-on (length s) go h p (frameStep s p) (stops s (p .at) (p .state) (frameAt s (p .at)) (nothing-left s (p .at)))) (record { at = 0; state = initial })
 
 -- ---- how long a line is
 
-short : (p k n : ℕ) → n < 10 ^ k → 0 < k → length (decimalIn p n) ≤ k
-unfolding decimalIn
-short zero k n h l = omega arith
-short (suc p) (suc zero) n h l = rw (lt-ltb n 10 h) (omega arith)
-short (suc p) (suc (suc k)) n h l =
-    let m : n < 10 ^ suc k * 10 = rw pow-suc at h in
-    let rest : length (decimalIn p (n / 10)) ≤ suc k = short p (suc k) (n / 10) (omega arith) (omega arith) in
-    pick (λ t. length t ≤ suc (suc k)) (ltb n 10) {x = (48 + n) ∷ []} {y = decimalIn p (n / 10) ++ ((48 + n % 10) ∷ [])} (λ e. omega arith) (λ e. rw length-append (omega arith))
-
 five-digits : (n : ℕ) → n < 100_000 → length (decimal n) ≤ 5
-five-digits n h = short 20 5 n h (omega arith)
-
-named : (v : FenceVerdict) → length (nameOf v) ≤ 14
-unfolding nameOf
-named PassUnrelated = omega arith
-named Allow = omega arith
-named DropCookieZero = omega arith
-named DropMissing = omega arith
-named DropClosed = omega arith
-named DropExpired = omega arith
-named DropStaleToken = omega arith
-named DropMalformed = omega arith
-
-one-byte : (v : FenceVerdict) → length (slotText (slotOf v)) ≡ 1
-unfolding slotText decimalIn
-one-byte PassUnrelated = refl
-one-byte Allow = refl
-one-byte DropCookieZero = refl
-one-byte DropMissing = refl
-one-byte DropClosed = refl
-one-byte DropExpired = refl
-one-byte DropStaleToken = refl
-one-byte DropMalformed = refl
+five-digits n h = few-digits 4 n h
 
 headers-4 : (c : Call) → headersOf c ≤ 4
-unfolding headersOf
-headers-4 c =
-    pick (λ n. n ≤ 4) (decodes configCodec (c .config) && (eqb (c .attachment) (root c) && differs c)) {x = reading c .headers} {y = 0} (λ e. count-at-most-4 (c .packet) (endpoint c)) (λ e. omega arith)
+headers-4 c = count-at-most-4 c
 
 line-most : (i : ℕ) (v : FenceVerdict) (h : ℕ) → i < 100_000 → h ≤ 4 → length (line i v h) ≤ 25
 unfolding line
 line-most i v h l m =
     rw (one-digit h 20 (omega arith) (omega arith))
-    (simp length-append (omega (arith, five-digits i l, named v, one-byte v)))
+    (simp length-append (omega (arith, five-digits i l, printed v)))
 
 last-most : (count : ℕ) (e : Ending) → count < 100_000 → EndsBy 65_536 e → length (lastLine count e) ≤ 10
 unfolding lastLine

@@ -9,13 +9,13 @@ use lib.Seq.{take-append-seam}
 use native.Mathlib.Nat.{add-zero}
 use Rattle.octets.specs.Octets.{octetsAt, le}
 use Rattle.gate.specs.Gate.{Call}
-use Rattle.bundle.specs.Feed.{Feed, Step, stop, skip, emit, onward, Less}
+use Rattle.bundle.specs.Feed.{Feed, Step, stop, skip, emit, onward, noCall, callThen, Less}
 use Rattle.bundle.specs.Frames.{lengthAt, kindAt, past, frameOf, frameAt, State, Place, initial, stepOf, leftAt, feedAt, bundleOf}
-use Rattle.bundle.specs.Listing.{Line, lastLine, sheet}
-use Rattle.bundle.specs.Promises.{callLines, EarlierCallsStay, EarlierLinesStay}
+use Rattle.bundle.specs.Listing.{Line, lastLine, sheet, verdictLine, longest, listing}
+use Rattle.bundle.specs.Promises.{callLines, EarlierCallsStay, EarlierLinesStay, EarlierListingStays}
 use Rattle.bundle.specs.Kinds.{Frame}
 use Rattle.bundle.specs.Kinds as frame
-use Rattle.bundle.proofs.FrameLaws.{size, left-size, less, feed-at}
+use Rattle.bundle.proofs.FrameLaws.{size, left-size, frames-fall, feed-at}
 use Rattle.bundle.proofs.EachLine.{lines-then-last}
 
 octets-left : (s t : List ℕ) (at n : ℕ) → at + n ≤ length s → octetsAt (s ++ t) at n ≡ octetsAt s at n
@@ -69,12 +69,12 @@ module _ (s t : List ℕ) where
 abbrev Begins : List Call → List Call → Type 0
 Begins cs ds = (rest : List Call) × (ds ≡ cs ++ rest)
 
-onward-begins : {A : Type 0} (f g : A → Feed) (left : A → ℕ) (m : ℕ) → ((a : A) → left a < m → Begins (f a .calls) (g a .calls)) →
-    (x : Step A) → Less left m x → Begins (onward f x .calls) (onward g x .calls)
+onward-begins : {A : Type 0} (f g : A → Feed A) (left : A → ℕ) (m : ℕ) → ((a : A) → left a < m → Begins (f a .calls) (g a .calls)) →
+    (p : A) (x : Step A) → Less left m x → Begins (onward noCall callThen f p x .calls) (onward noCall callThen g p x .calls)
 unfolding onward
-onward-begins f g left m h (stop e) l = ([], refl)
-onward-begins f g left m h (skip a) l = h a l
-onward-begins f g left m h (emit c a) l = let b = h a l in (b .0, ap (λ ds. c ∷ ds) (b .1))
+onward-begins f g left m h p (stop e) l = ([], refl)
+onward-begins f g left m h p (skip a) l = h a l
+onward-begins f g left m h p (emit c a) l = let b = h a l in (b .0, ap (λ ds. c ∷ ds) (b .1))
 
 module _ (s t : List ℕ) where
   abbrev Later : Place → Type 0
@@ -87,7 +87,7 @@ module _ (s t : List ℕ) where
       let frame : frameAt (s ++ t) (p .at) ≡ x = same-frame s t (p .at) whole ∙ e in
       let step : stepOf (s ++ t) (p .at) (p .state) x ≡ stepOf s (p .at) (p .state) x = same-step s t (p .at) (p .state) x w fit in
       rw (feed-at s p x e, feed-at (s ++ t) p x frame, step)
-      (onward-begins (feedAt s) (feedAt (s ++ t)) (leftAt s) (leftAt s p) h (stepOf s (p .at) (p .state) x) (less s (p .at) (p .state) x fit))
+      (onward-begins (feedAt s) (feedAt (s ++ t)) (leftAt s) (leftAt s p) h p (stepOf s (p .at) (p .state) x) (rw e at (frames-fall s p)))
 
   at-frame : (p : Place) (x : Frame) → frameAt s (p .at) ≡ x → ((a : Place) → leftAt s a < leftAt s p → Later a) → Later p
   unfolding stepOf onward
@@ -126,5 +126,13 @@ earlier-lines-stay g s t =
     let last = lastLine (length (bundleOf (s ++ t) .calls)) (bundleOf (s ++ t) .ending) in
     let later = callLines g (0 + length cs) (b .0) in
     let whole : sheet g (bundleOf (s ++ t)) ≡ callLines g 0 cs ++ (later ++ last) =
-    lines-then-last g (bundleOf (s ++ t)) ∙ ap (λ l. l ++ last) (ap (callLines g 0) (b .1) ∙ lines-append g 0 cs (b .0)) ∙ append-assoc (callLines g 0 cs) later last in
+    lines-then-last Place g (bundleOf (s ++ t)) ∙ ap (λ l. l ++ last) (ap (callLines g 0) (b .1) ∙ lines-append g 0 cs (b .0)) ∙ append-assoc (callLines g 0 cs) later last in
     rw whole (take-append-seam (callLines g 0 cs) (later ++ last))
+
+pub earlier-listing-stays : EarlierListingStays
+unfolding listing
+earlier-listing-stays s t h =
+    let long : length s ≤ longest = omega (arith, length-append s t) in (
+      rw (le-ltb longest (length s) long) (lines-then-last Place verdictLine (bundleOf s)),
+      rw (le-ltb longest (length (s ++ t)) h) (earlier-lines-stay verdictLine s t),
+    )

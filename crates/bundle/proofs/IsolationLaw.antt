@@ -4,7 +4,7 @@ use Rattle.octets.proofs.Tools.{refl, ap, _∙_, le-ltb}
 use Rattle.gate.specs.Gate.{Call, gateOf}
 use Rattle.gate.proofs.IsolationLaw.{isolated-rule, isolated}
 use Rattle.bundle.specs.Feed.{Ending}
-use Rattle.bundle.specs.Frames.{bundleOf}
+use Rattle.bundle.specs.Frames.{Place, bundleOf}
 use Rattle.bundle.specs.Listing.{line, linesBy, verdictLine, longest, listing}
 use Rattle.bundle.specs.Promises.{AllAlike, IsolatedLine, IsolatedSheet, IsolatedListing}
 
@@ -20,8 +20,8 @@ all-lines i (c ∷ cs) [] e h = absurd h
 all-lines i (c ∷ cs) (d ∷ ds) e h = λ j. isolated-line i c d (h .0) j ++ all-lines (i + 1) cs ds e (h .1) j
 
 pub isolated-sheet : IsolatedSheet
-isolated-sheet f h a e = all-lines 0 (f .calls) (h .calls) (f .ending) a ∙ ap (linesBy verdictLine 0 (h .calls)) e
+isolated-sheet A B f h a e = all-lines 0 (f .calls) (h .calls) (f .ending) a ∙ ap (linesBy verdictLine 0 (h .calls)) e
 
 pub isolated-listing : IsolatedListing
 unfolding listing
-isolated-listing s t hs ht a e = rw (le-ltb longest (length s) hs, le-ltb longest (length t) ht) (isolated-sheet (bundleOf s) (bundleOf t) a e)
+isolated-listing s t hs ht a e = rw (le-ltb longest (length s) hs, le-ltb longest (length t) ht) (isolated-sheet Place Place (bundleOf s) (bundleOf t) a e)

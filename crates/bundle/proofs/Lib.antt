@@ -1,11 +1,11 @@
--- The laws of `bundle`: feeds, frames, text, a listing that is under way, and then what is promised of listings (specs/Promises.antt),
--- 01's case, and the answer as the contract's alone. Assumes nothing.
-pub mod Choices
+-- The laws of `bundle`: feeds, frames, the cursor, what a line prints, how long a listing is, a listing that is under way, and then what else is promised of
+-- listings (specs/Promises.antt), the examples, and the answer as the contract's alone. Assumes nothing.
 pub mod FeedLaws
 pub mod FrameLaws
-pub mod TextLaws
-pub mod ListingLaws
+pub mod DeskLaws
+pub mod Names
 pub mod Bound
+pub mod ListingLaws
 pub mod EachLine
 pub mod Earlier
 pub mod IsolationLaw

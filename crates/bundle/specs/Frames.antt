@@ -107,9 +107,9 @@ frameStep s p = stepOf s (p .at) (p .state) (frameAt s (p .at))
 abbrev pub leftAt : List ℕ → Place → ℕ
 leftAt s p = length s - p .at
 
--- the calls from a place on, and those of a bundle
-unfoldable pub feedAt : List ℕ → Place → Feed
+-- the calls from a place on, and those of a bundle: at the end of its feed stands the state that is in force then
+unfoldable pub feedAt : List ℕ → Place → Feed Place
 feedAt s p = run (frameStep s) (leftAt s) p
 
-unfoldable pub bundleOf : List ℕ → Feed
+unfoldable pub bundleOf : List ℕ → Feed Place
 bundleOf s = feedAt s (record { at = 0; state = initial })

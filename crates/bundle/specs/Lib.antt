@@ -2,7 +2,7 @@
 pub mod Feed
 pub mod Kinds
 pub mod Frames
-pub mod Text
 pub mod Listing
-pub mod Steps
 pub mod Promises
+pub mod Examples
+pub mod Inner

@@ -1,5 +1,6 @@
 -- Document 01, 'The bundle and its listing': the listing of a bundle. Assumes nothing.
 use Rattle.octets.specs.Words.{ℕ, _+_, _≤_, _≡_, cond, List, [], _∷_, _++_, length, drop, ltb, leb}
+use Rattle.text.specs.Text.{ascii, decimal, numbered}
 use Rattle.verdict.specs.Verdict.{slotOf}
 use Rattle.verdict.specs.declared.FenceVerdict.{FenceVerdict}
 use Rattle.verdict.specs.declared.FenceVerdict.the-variants.{PassUnrelated, Allow, DropCookieZero, DropMissing, DropClosed, DropExpired, DropStaleToken, DropMalformed}
@@ -8,7 +9,6 @@ use Rattle.verdict.specs.declared.CounterSlot.the-variants.{Uncounted, Slot}
 use Rattle.gate.specs.Gate.{Call, answering, headersOf}
 use Rattle.bundle.specs.Feed.{Ending, ended, bad, Feed}
 use Rattle.bundle.specs.Frames.{bundleOf}
-use Rattle.bundle.specs.Text.{ascii, decimal}
 use Rattle.bundle.specs.declared.Listed.{Listed}
 
 -- 01's names of the verdicts
@@ -33,8 +33,8 @@ line i v h = decimal i ++ (ascii " " ++ nameOf v ++ ascii " ") ++ decimal h ++ a
 
 -- "At the end `end` and the packet count"; "`bad` and the frame's offset"
 unfoldable pub lastLine : ℕ → Ending → List ℕ
-lastLine count ended = ascii "end " ++ decimal count ++ ascii "\n"
-lastLine count (bad at) = ascii "bad " ++ decimal at ++ ascii "\n"
+lastLine count ended = numbered (ascii "end ") count
+lastLine count (bad at) = numbered (ascii "bad ") at
 
 -- what a sheet prints of a call with an ordinal
 abbrev pub Line : Type 0
@@ -45,7 +45,7 @@ unfoldable pub linesBy : Line → ℕ → List Call → Ending → List ℕ
 linesBy g i [] e = lastLine i e
 linesBy g i (c ∷ cs) e = g i c ++ linesBy g (i + 1) cs e
 
-abbrev pub sheet : Line → Feed → List ℕ
+abbrev pub sheet : {A : Type 0} → Line → Feed A → List ℕ
 sheet g f = linesBy g 0 (f .calls) (f .ending)
 
 -- the verdict listing: a line says what the gate answers

@@ -1,10 +1,10 @@
 -- What is proved of listings. Assumes nothing.
-use Rattle.octets.specs.Words.{ℕ, suc, _+_, _-_, _*_, _^_, _<_, _≤_, _≡_, cond, List, [], _∷_, _++_, length, take, eqb}
+use Rattle.octets.specs.Words.{ℕ, _+_, _*_, _≤_, _≡_, List, [], _∷_, _++_, length, take}
+use Rattle.text.specs.Promises.{newlines}
 use Rattle.gate.specs.Gate.{Call}
 use Rattle.gate.specs.Isolation.{Alike}
 use Rattle.bundle.specs.Feed.{Feed}
 use Rattle.bundle.specs.Frames.{bundleOf}
-use Rattle.bundle.specs.Text.{decimal}
 use Rattle.bundle.specs.Listing.{Line, lastLine, sheet, verdictLine, longest, listing, answerOf}
 
 -- ---- one line for each packet
@@ -14,29 +14,13 @@ unfoldable pub callLines : Line → ℕ → List Call → List ℕ
 callLines g i [] = []
 callLines g i (c ∷ cs) = g i c ++ callLines g (i + 1) cs
 
--- a sheet is the lines of its calls, and a last line that is given their number
-abbrev pub LinesThenLast : Type 0
-LinesThenLast = (g : Line) (f : Feed) → sheet g f ≡ callLines g 0 (f .calls) ++ lastLine (length (f .calls)) (f .ending)
-
--- how many newlines a text has
-unfoldable pub newlines : List ℕ → ℕ
-newlines [] = 0
-newlines (b ∷ s) = cond (eqb b 10) (suc (newlines s)) (newlines s)
+-- a sheet is the lines of its calls, and a last line that is given their number; of feeds from any reader
+abbrev pub LinesThenLast : Type 1
+LinesThenLast = (A : Type 0) (g : Line) (f : Feed A) → sheet g f ≡ callLines g 0 (f .calls) ++ lastLine (length (f .calls)) (f .ending)
 
 -- a listing has one line for each packet before the end or the fault, and the last
 abbrev pub OneLineEach : Type 0
 OneLineEach = (s : List ℕ) → length s ≤ longest → newlines (listing s) ≡ length (bundleOf s .calls) + 1
-
--- ---- numbers
-
--- the number that decimal digits spell, after a number that stands before them
-unfoldable pub spelled : ℕ → List ℕ → ℕ
-spelled n [] = n
-spelled n (d ∷ s) = spelled (n * 10 + (d - 48)) s
-
--- a number of at most twenty digits is read back from them
-abbrev pub ReadsBack : Type 0
-ReadsBack = (n : ℕ) → n < 10 ^ 20 → spelled 0 (decimal n) ≡ n
 
 -- ---- what comes later changes nothing of what came before
 
@@ -48,6 +32,12 @@ EarlierCallsStay = (s t : List ℕ) → take (length (bundleOf s .calls)) (bundl
 abbrev pub EarlierLinesStay : Type 0
 EarlierLinesStay = (g : Line) (s t : List ℕ) →
     take (length (callLines g 0 (bundleOf s .calls))) (sheet g (bundleOf (s ++ t))) ≡ callLines g 0 (bundleOf s .calls)
+
+-- so a listing, but for its last line, begins the listing of every longer bundle that is not too long
+abbrev pub EarlierListingStays : Type 0
+EarlierListingStays = (s t : List ℕ) → length (s ++ t) ≤ longest →
+    (listing s ≡ callLines verdictLine 0 (bundleOf s .calls) ++ lastLine (length (bundleOf s .calls)) (bundleOf s .ending)) ×
+    (take (length (callLines verdictLine 0 (bundleOf s .calls))) (listing (s ++ t)) ≡ callLines verdictLine 0 (bundleOf s .calls))
 
 -- ---- isolation, carried to the listing (demand 3)
 
@@ -63,8 +53,8 @@ abbrev pub IsolatedLine : Type 0
 IsolatedLine = (i : ℕ) (a b : Call) → Alike a b → verdictLine i a ≡ verdictLine i b
 
 -- all lines, of feeds from any reader
-abbrev pub IsolatedSheet : Type 0
-IsolatedSheet = (f h : Feed) → AllAlike (f .calls) (h .calls) → f .ending ≡ h .ending → sheet verdictLine f ≡ sheet verdictLine h
+abbrev pub IsolatedSheet : Type 1
+IsolatedSheet = (A B : Type 0) (f : Feed A) (h : Feed B) → AllAlike (f .calls) (h .calls) → f .ending ≡ h .ending → sheet verdictLine f ≡ sheet verdictLine h
 
 -- the listings of two bundles
 abbrev pub IsolatedListing : Type 0
@@ -72,6 +62,10 @@ IsolatedListing = (s t : List ℕ) → length s ≤ longest → length t ≤ lon
     AllAlike (bundleOf s .calls) (bundleOf t .calls) → bundleOf s .ending ≡ bundleOf t .ending → listing s ≡ listing t
 
 -- ---- how long a listing is
+
+-- a packet's frame takes six bytes or more
+abbrev pub FewCalls : Type 0
+FewCalls = (s : List ℕ) → 6 * length (bundleOf s .calls) ≤ length s
 
 -- no listing is longer
 abbrev pub longestListing : ℕ

@@ -1,13 +1,12 @@
 // A bundle and its listing: one pass over the frames, a line for each packet.
+mod calls;
 mod frames;
 mod lines;
-mod text;
 
-use frames::Cursor;
-use frames::Frame;
+use frames::Next;
 ghost use Rattle.octets.specs.Words.{_≤_, _≡_, length, leb};
+ghost use Rattle.text.specs.Text.{Wrote};
 ghost use Rattle.bundle.specs.Frames.{bundleOf};
-ghost use Rattle.bundle.specs.Steps.{Wrote};
 ghost use Rattle.bundle.specs.Listing.{sheet, verdictLine, listing, Lists};
 
 // The longest bundle.
@@ -24,36 +23,24 @@ pub struct Listed {
 
 // Writes a line for each packet and the last line. The table is gathered in `table`.
 fn put_lines(out: &mut [u8], input: &[u8], table: &mut [u8]) -> usize
-    requires { ⌜ (length (now input) ≤ 65536) × (65536 ≤ length (now table)) ⌝ }
+    requires { ⌜ length (now input) ≤ length (now table) ⌝ }
     ensures { λ r. ⌜ Wrote (now (out .entry)) 0 (sheet verdictLine (bundleOf (now (input .entry)))) (now (out .exit)) r ⌝ }
 {
     let mut cursor = frames::start(input.len());
     let mut ordinal: u64 = 0;
     let mut to = 0;
     loop {
-        let at = cursor.at;
-        match frames::frame_at(input, at) {
-            Frame::Config => {
-                cursor = cursor.with_config();
-            }
-            Frame::Current => {
-                cursor = cursor.with_current();
-            }
-            Frame::CookieValue => {
-                frames::append_value(table, input, cursor);
-                cursor = cursor.with_value();
-            }
-            Frame::Call => {
-                cursor = cursor.with_call();
-            }
-            Frame::Packet(len) => {
-                let answer = frames::judge(input, table, cursor, len);
+        match frames::next_packet(input, table, cursor) {
+            Next::Packet(after, len) => {
+                let end = after.at;
+                let from = end - len;
+                let answer = calls::judge(input, table, after, &input[from..end]);
                 to = lines::put_line(out, to, ordinal, answer);
                 ordinal += 1;
-                cursor = cursor.past_packet(len);
+                cursor = after;
             }
-            Frame::End => return lines::put_last(out, to, b"end ", ordinal),
-            Frame::Bad => return lines::put_last(out, to, b"bad ", at as u64),
+            Next::Ended(last) => return text::put_numbered(out, to, b"end ", ordinal),
+            Next::Bad(last) => return text::put_numbered(out, to, b"bad ", last.at as u64),
         }
     }
 }

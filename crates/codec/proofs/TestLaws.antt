@@ -1,25 +1,10 @@
 -- The laws of rules that are lists of tests: a rule made of two, of a part's, and of tests that are asked under a condition; and that a
 -- first fault is told exactly where a test fails. By induction on the list. Assumes nothing.
 use Rattle.octets.specs.Words.{ℕ, _≡_, Bool, true, false, cond, not, _&&_, _||_, List, [], _∷_, _++_, drop}
-use Rattle.octets.proofs.Tools.{refl, sym, ap, _∙_, true≢false}
+use Rattle.octets.proofs.Tools.{refl, sym, ap, _∙_}
+pub use Rattle.octets.proofs.Choices.{and-left, and-right, and-true}
+use Rattle.octets.proofs.Choices.{and-assoc}
 use Rattle.codec.specs.Codec.{Test, passes, shifted, given, faultAt, isClean, firstFault}
-
-pub and-left : (a b : Bool) → (a && b) ≡ true → a ≡ true
-and-left true b h = refl
-and-left false b h = h
-
-pub and-right : (a b : Bool) → (a && b) ≡ true → b ≡ true
-and-right true b h = h
-and-right false b h = absurd (true≢false (sym h))
-
--- the last test of a rule is asked by itself
-pub and-true : (b : Bool) → (b && true) ≡ b
-and-true true = refl
-and-true false = refl
-
-pub and-assoc : (a b c : Bool) → ((a && b) && c) ≡ (a && (b && c))
-and-assoc true b c = refl
-and-assoc false b c = refl
 
 or-and : (b x y : Bool) → (not b || (x && y)) ≡ ((not b || x) && (not b || y))
 or-and true x y = refl

@@ -1,9 +1,14 @@
 -- What is promised of every record's functions, from their contracts alone (demand 2). `Formed v` says that v is a value of its type: each
 -- number within its width, each array of its length, which the language guarantees of every value that code can hold. Assumes nothing.
-use Rattle.octets.specs.Words.{ℕ, _≤_, _≡_, true, false, List, _++_, length, take, drop, eqb}
+use Rattle.octets.specs.Words.{ℕ, _≤_, _≡_, Bool, true, false, _&&_, List, [], _∷_, _++_, length, take, drop, eqb, leb}
 use Rattle.octets.specs.Octets.{Bytes}
 use Rattle.codec.specs.Layout.{size, Fit}
-use Rattle.codec.specs.Codec.{Codec, decodeNumber, faultOf, isClean, sound, Built, Made, Decoded, Encoded}
+use Rattle.codec.specs.Codec.{Test, Codec, decodeNumber, faultOf, isClean, sound, Built, Made, Decoded, Encoded}
+
+-- no test stands before one of a smaller offset, nor before n
+abbrev pub rising : ℕ → List Test → Bool
+rising n [] = true
+rising n (t ∷ ts) = leb n (t .offset) && rising (t .offset) ts
 
 module _ {R : Type 0} (C : Codec R) where
   -- accepted bytes encode to themselves: where a decoder gives v for s, v is sound, and an encoder with room writes s again
@@ -31,6 +36,10 @@ module _ {R : Type 0} (C : Codec R) where
   -- bytes decode exactly if no field is at fault
   abbrev pub Told : Type 0
   Told = (s : List ℕ) → isClean (faultOf C s) ≡ eqb (decodeNumber C s) 0
+
+  -- the tests stand in the order of their offsets, so that the first that fails is about the first field at fault
+  abbrev pub InOrder : Type 0
+  InOrder = rising 0 (C .tests) ≡ true
 
   -- the laws of a record
   pub record Laws (Formed : R → Type 0) : Type 0 where

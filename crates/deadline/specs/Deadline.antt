@@ -1,5 +1,5 @@
 -- Document 01, 'Deadlines': whether a refresh may put a requested deadline in the place of the prior one. Assumes nothing.
-use Rattle.octets.specs.Words.{ℕ, _-_, Bool, cond, _||_, ltb, leb}
+use Rattle.octets.specs.Words.{ℕ, _-_, cond, _||_, ltb, leb}
 use Rattle.deadline.specs.declared.RefreshDeadlineDecision.{RefreshDeadlineDecision}
 use Rattle.deadline.specs.declared.RefreshDeadlineDecision.the-variants.{PriorExpired, RequestedDeadlineInvalid, DeadlineRegressed, Apply}
 

@@ -1,55 +1,49 @@
--- The laws of every view, proved once: the answers of the two functions that a view has, by the ways through their code. A view owes
--- `Viewable`: its codec's laws, a slot for each field, and that its fixed fields are those of every record. Assumes nothing.
-use Rattle.octets.specs.Words.{ℕ, zero, suc, _-_, _^_, _<_, _≤_, _≡_, Bool, true, false, cond, _&&_, List, [], _∷_, _++_, length, drop, replicate, eqb, ltb, leb}
-use Rattle.octets.proofs.Tools.{refl, sym, ap, _∙_, arith, eq-eqb, ne-eqb, eqb-true, eqb-false, lt-ltb, le-ltb, ltb-true, leb-true}
+-- The laws of every view, proved once: what its decoder answers, its encoder, and the refusal of an image, by what the functions inside
+-- did. A view owes `Viewable`: its codec's laws, a slot for each field, room in the image for each own number, and that its fixed fields
+-- are those of every record. Assumes nothing.
+pub use Rattle.octets.proofs.Tools.{refl, free, needs}
+pub use lib.Dec.{lit≤}
+use Rattle.octets.specs.Words.{ℕ, suc, _-_, _^_, _<_, _≤_, _≡_, Bool, true, false, cond, _&&_, List, [], _∷_, _++_, length, drop, replicate, eqb, ltb, leb}
+use Rattle.octets.proofs.Tools.{sym, ap, _∙_, arith, eq-eqb, ne-eqb, eqb-true, lt-ltb, le-ltb, ltb-true}
+use Rattle.octets.proofs.Choices.{and-left, and-right}
 use lib.ListN.{length-replicate, drop-of-length-le}
 use mathlib.Core.List.{append-nil}
-use native.Mathlib.Nat.{pow-suc}
-use lib.Dec.{lit<}
 use Rattle.octets.specs.Octets.{Bytes, octetsAt, le}
-use Rattle.octets.specs.Layout.{Field, width, size, fieldsAt, laid, Fit}
-use Rattle.octets.specs.Codec.{Codec, decodeNumber, decodeValue, encodeAnswer}
-use Rattle.octets.proofs.OctetsLaws.{length-octets, le-below, Bytes-octets}
-use Rattle.octets.proofs.LayoutLaws.{fields-laid, length-laid, puts-laid, put-laid}
-use Rattle.octets.proofs.CodecLaws.{Lawful, and-left, and-right}
-use Rattle.export.specs.View.{Slot, own, fixed, View, pick, spread, wide, fitting, imageSize, viewDecodeNumber, viewDecodeOut, numbers, soundImage, viewEncodeNumber, viewEncodeOut, ViewDecoded, ViewEncoded}
-use Rattle.export.specs.Steps.{imageAnswer, imageCleared, shown, written}
+use Rattle.octets.proofs.OctetsLaws.{length-octets, le-below, Bytes-octets, pow-pos}
+use Rattle.codec.specs.Layout.{Field, width, size, fieldsAt, laid, Fit}
+use Rattle.codec.specs.Inner.Stores.{puts}
+use Rattle.codec.specs.Codec.{Codec, ok, decodeNumber, decodeValue, roomAnswer, unsoundNumber, written}
+use Rattle.codec.proofs.LayoutLaws.{fields-laid, length-laid, puts-laid, put-laid, fit-fields, length-fields, laid-fields}
+use Rattle.codec.proofs.CodecLaws.{Lawful, accepted-ok, room-done}
+use Rattle.export.specs.View.{Slot, own, fixed, View, pick, spread, wide, fitting, imageSize, image, viewDecodeNumber, viewDecodeOut, numbers, cleared, soundImage, imageRefusal, viewEncodeNumber, viewEncodeOut, ViewDecoded, ViewEncoded}
+use Rattle.export.specs.Inner.Steps.{Shown, Stored, shown, stored}
 
--- no field is wider than eight octets
-abbrev pub eightAtMost : List Field → Bool
-eightAtMost [] = true
-eightAtMost (f ∷ fs) = leb (width f) 8 && eightAtMost fs
+-- each own number has as many octets in the image as in the layout, or more
+abbrev pub roomy : List Slot → List Field → Bool
+roomy [] fs = true
+roomy (x ∷ xs) [] = true
+roomy (own n ∷ xs) (f ∷ fs) = leb (width f) n && roomy xs fs
+roomy (fixed n ∷ xs) (f ∷ fs) = roomy xs fs
 
 pub record Viewable {R : Type 0} (W : View R) (Formed : R → Type 0) : Type 0 where
   pub lawful : Lawful (W .codec) Formed
   pub counted : length (W .slots) ≡ length (W .codec .layout)
-  pub narrow : eightAtMost (W .codec .layout) ≡ true
+  pub narrow : roomy (W .slots) (W .codec .layout) ≡ true
   pub same : (v : R) → spread (W .slots) (pick (W .slots) (W .codec .fields v)) ≡ W .codec .fields v
 
 -- ---- numbers
 
-pub pick-spread : (xs : List Slot) (ws : List ℕ) → length ws ≡ length (wide xs) → pick xs (spread xs ws) ≡ ws
-pick-spread [] [] e = refl
-pick-spread [] (w ∷ ws) e = absurd (omega arith)
-pick-spread (own ∷ xs) [] e = absurd (omega arith)
-pick-spread (own ∷ xs) (w ∷ ws) e = ap (λ (l : List ℕ). w ∷ l) (pick-spread xs ws (omega arith))
-pick-spread (fixed n ∷ xs) ws e = pick-spread xs ws e
-
 pub length-spread : (xs : List Slot) (ws : List ℕ) → length (spread xs ws) ≡ length xs
 length-spread [] ws = refl
-length-spread (own ∷ xs) [] = ap suc (length-spread xs [])
-length-spread (own ∷ xs) (w ∷ ws) = ap suc (length-spread xs ws)
+length-spread (own n ∷ xs) [] = ap suc (length-spread xs [])
+length-spread (own n ∷ xs) (w ∷ ws) = ap suc (length-spread xs ws)
 length-spread (fixed n ∷ xs) ws = ap suc (length-spread xs ws)
 
 pub length-pick : (xs : List Slot) (vs : List ℕ) → length vs ≡ length xs → length (pick xs vs) ≡ length (wide xs)
 length-pick [] vs e = refl
 length-pick (x ∷ xs) [] e = absurd (omega arith)
-length-pick (own ∷ xs) (v ∷ vs) e = ap suc (length-pick xs vs (omega arith))
+length-pick (own n ∷ xs) (v ∷ vs) e = ap suc (length-pick xs vs (omega arith))
 length-pick (fixed n ∷ xs) (v ∷ vs) e = length-pick xs vs (omega arith)
-
-pub length-fields : (fs : List Field) (s : List ℕ) (at : ℕ) → length (fieldsAt fs s at) ≡ length fs
-length-fields [] s at = refl
-length-fields (f ∷ fs) s at = ap suc (length-fields fs s _)
 
 pub fit-fitting : (fs : List Field) (vs : List ℕ) → length vs ≡ length fs → fitting fs vs ≡ true → Fit fs vs
 fit-fitting [] [] e h = tt
@@ -57,13 +51,15 @@ fit-fitting [] (v ∷ vs) e h = absurd (omega arith)
 fit-fitting (f ∷ fs) [] e h = absurd (omega arith)
 fit-fitting (f ∷ fs) (v ∷ vs) e h = (ltb-true _ _ (and-left _ _ h), fit-fitting fs vs (omega arith) (and-right (ltb v (256 ^ width f)) _ h))
 
--- a number of eight octets fits a field of eight; another number r, which is v, by its test
-pub eight : (s : List ℕ) → Bytes s → (at : ℕ) → ltb (le (octetsAt s at 8)) (256 ^ 8) ≡ true
-eight s h at = lt-ltb _ _ (rw length-octets at (le-below (octetsAt s at 8) (Bytes-octets s at 8 h)))
+pub fitting-fit : (fs : List Field) (vs : List ℕ) → Fit fs vs → fitting fs vs ≡ true
+fitting-fit [] [] h = refl
+fitting-fit [] (v ∷ vs) h = refl
+fitting-fit (f ∷ fs) [] h = refl
+fitting-fit (f ∷ fs) (v ∷ vs) h = simp (lt-ltb v (256 ^ width f) (h .0), fitting-fit fs vs (h .1))
 
-pow-pos : (n : ℕ) → 0 < 256 ^ n
-pow-pos zero = lit< tt
-pow-pos (suc n) = rw pow-suc (let h : 0 < 256 ^ n = pow-pos n in omega arith)
+-- a number of n octets fits a field of n; another number r, which is v, by its test
+pub whole : (s : List ℕ) → Bytes s → (n at : ℕ) → ltb (le (octetsAt s at n)) (256 ^ n) ≡ true
+whole s h n at = lt-ltb _ _ (rw length-octets at (le-below (octetsAt s at n) (Bytes-octets s at n h)))
 
 pub within : (w : ℕ) {r v : ℕ} → r ≡ v → r ≤ 256 ^ w - 1 → ltb v (256 ^ w) ≡ true
 within w {r} {v} e h = let p = pow-pos w in lt-ltb v (256 ^ w) (omega arith)
@@ -71,104 +67,123 @@ within w {r} {v} e h = let p = pow-pos w in lt-ltb v (256 ^ w) (omega arith)
 pub beyond : (w : ℕ) {r v : ℕ} → r ≡ v → 256 ^ w - 1 < r → ltb v (256 ^ w) ≡ false
 beyond w {r} {v} e h = le-ltb v (256 ^ w) (omega arith)
 
+-- the numbers that an image gives are as many as the layout's fields
+pub count-numbers : {R : Type 0} (W : View R) (f : List ℕ) → length (W .slots) ≡ length (W .codec .layout) → length (numbers W f) ≡ length (W .codec .layout)
+count-numbers W f counted = length-spread (W .slots) (fieldsAt (wide (W .slots)) f 0) ∙ counted
+
+-- ---- outputs
+
+-- what a run of stores leaves at the start, where there is room
+puts-start : (fs : List Field) (vs out : List ℕ) → length vs ≡ length fs → size fs ≤ length out → puts fs vs out 0 ≡ laid fs vs ++ drop (length (laid fs vs)) out
+puts-start fs vs out count room =
+    puts-laid fs vs out 0 ∙ put-laid fs vs out count room ∙ ap (λ (n : ℕ). laid fs vs ++ drop n out) (sym (length-laid fs vs count))
+
+-- under the number 0 bytes b stand there, under another the output is left
+left-written : (m : ℕ) (there b out : List ℕ) → (m ≡ 0 → there ≡ b ++ drop (length b) out) → cond (eqb m 0) there out ≡ written m b out
+unfolding written
+left-written m there b out h = go (eqb m 0) refl
+  where
+    go : (c : Bool) → eqb m 0 ≡ c → cond c there out ≡ cond c (b ++ drop (length b) out) out
+    go true e = h (eqb-true m 0 e)
+    go false e = refl
+
 -- ---- decoding
 
--- of two tests that answer y where the first fails, else x + 1 where the second fails: 0 says that both hold, if y is not 0 there
-pub both-hold : (a b : Bool) (x y : ℕ) → (a ≡ false → y ≡ 0 → ⊥) → _≡_ {A = ℕ} (cond a (cond b 0 (suc x)) y) 0 → (a ≡ true) × (b ≡ true)
-both-hold true true x y h z = (refl, refl)
-both-hold true false x y h z = absurd (omega arith)
-both-hold false b x y h z = absurd (h refl z)
-
--- another answer says that one fails, and then no record is shown
-none-shown : (a b : Bool) (k : ℕ) (there out zeros : List ℕ) → (_≡_ {A = ℕ} (cond a (cond b 0 4) k) 0 → ⊥) → cond a out zeros ≡ cond a (cond b there out) zeros
-none-shown true true k there out zeros h = absurd (h refl)
-none-shown true false k there out zeros h = refl
-none-shown false b k there out zeros h = refl
-
--- n is the decoder's number, and m what `decode_number` answers of it: a refusal, and below the record shown
-module _ {R : Type 0} (W : View R) {s out : List ℕ} where
-  pub decoded-refused : {n m : ℕ} {out′ : List ℕ} → n ≡ decodeNumber (W .codec) s →
-      (m ≡ imageAnswer n (imageSize W) (length out)) × (out′ ≡ imageCleared n (imageSize W) out) → (m ≡ 0 → ⊥) → ViewDecoded W s out m out′
-  unfolding viewDecodeNumber viewDecodeOut
-  decoded-refused {n} e p h = record {
-    number = rw (sym e) (p .0);
-    output = rw (sym e) (p .1 ∙ none-shown (eqb n 0) (leb (imageSize W) (length out)) n _ _ _ (λ z. h (p .0 ∙ z)));
-  }
-
-module _ {R : Type 0} (C : Codec R) (Formed : R → Type 0) (L : Lawful C Formed) where
+module _ {R : Type 0} {C : Codec R} {Formed : R → Type 0} (L : Lawful C Formed) where
   -- the numbers of accepted bytes are those of their record
-  pub told : (s : List ℕ) → Bytes s → decodeNumber C s ≡ 0 → C .fields (decodeValue C s) ≡ fieldsAt (C .layout) s 0
-  unfolding decodeNumber decodeValue
-  told s h e =
-      let both = both-hold (eqb (length s) (size (C .layout))) (C .ok (fieldsAt (C .layout) s 0)) 1 1 (λ f z. omega arith) e in
-      simp (both .0, both .1) (L .back s 0 h (both .1))
+  pub known : (s : List ℕ) → Fit (C .layout) (fieldsAt (C .layout) s 0) → decodeNumber C s ≡ 0 → C .fields (decodeValue C s) ≡ fieldsAt (C .layout) s 0
+  known s fit e =
+      let a = accepted-ok C {s = s} {v = decodeValue C s} (record { number = sym e; value = refl }) in
+      ap (C .fields) (a .1 .1) ∙ L .back (fieldsAt (C .layout) s 0) fit (a .1 .0)
 
-module _ {R : Type 0} (W : View R) (Formed : R → Type 0) (L : Viewable W Formed) {s out : List ℕ} where
-  pub decoded-shown : {n m : ℕ} {mid out′ : List ℕ} → Bytes s → n ≡ decodeNumber (W .codec) s →
-      (m ≡ imageAnswer n (imageSize W) (length out)) × (mid ≡ imageCleared n (imageSize W) out) → m ≡ 0 → out′ ≡ shown W s mid → ViewDecoded W s out m out′
-  unfolding viewDecodeNumber viewDecodeOut
-  decoded-shown {n} h e p m0 q =
-      let both = both-hold (eqb n 0) (leb (imageSize W) (length out)) 3 n (eqb-false n 0) (sym (p .0) ∙ m0) in
-      let vs : List ℕ = fieldsAt (W .codec .layout) s 0 in
-      let count : length (pick (W .slots) vs) ≡ length (wide (W .slots)) =
-      length-pick (W .slots) vs (length-fields (W .codec .layout) s 0 ∙ sym (L .counted)) in
-      let there = puts-laid (wide (W .slots)) (pick (W .slots) vs) out 0 ∙ put-laid (wide (W .slots)) (pick (W .slots) vs) out count (leb-true _ _ (both .1)) in
-      let same : _ ≡ out = p .1 ∙ simp (both .0) in
-      record {
-        number = rw (sym e) (p .0);
-        output = simp (sym e, both .0, both .1, told (W .codec) Formed (L .lawful) s h (sym e ∙ eqb-true n 0 (both .0))) (q ∙ ap (shown W s) same ∙ there);
-      }
+-- a choice's first side matters only where the choice falls on it
+first-side : (k : ℕ) {x y : List ℕ} (z : List ℕ) → (k ≡ 0 → x ≡ y) → cond (eqb k 0) x z ≡ cond (eqb k 0) y z
+first-side k {x} {y} z h = go (eqb k 0) refl
+  where
+    go : (c : Bool) → eqb k 0 ≡ c → cond c x z ≡ cond c y z
+    go true e = h (eqb-true k 0 e)
+    go false e = refl
+
+-- n is the decoder's number, and m what is answered of it
+pub decoded : {R : Type 0} {W : View R} {Formed : R → Type 0} (L : Viewable W Formed) {s out out′ : List ℕ} {n m : ℕ} → Bytes s → n ≡ decodeNumber (W .codec) s →
+    Shown n (imageSize W) (shown W s out) out m out′ → ViewDecoded W s out m out′
+unfolding viewDecodeNumber viewDecodeOut
+decoded {R} {W} {Formed} L {s} {out} {out′} {n} {m} h e p =
+    let fs = wide (W .slots) in
+    let vs : List ℕ = fieldsAt (W .codec .layout) s 0 in
+    let count : length (pick (W .slots) vs) ≡ length fs = length-pick (W .slots) vs (length-fields (W .codec .layout) s 0 ∙ sym (L .counted)) in
+    let there : n ≡ 0 → m ≡ 0 → shown W s out ≡ image W (decodeValue (W .codec) s) ++ drop (length (image W (decodeValue (W .codec) s))) out =
+    λ n0 m0. rw (known (L .lawful) s (fit-fields (W .codec .layout) s 0 h) (sym e ∙ n0))
+    (puts-start fs (pick (W .slots) vs) out count (room-done n (imageSize W) (length out) (sym (p .number) ∙ m0) .1)) in
+    record {
+      number = rw (sym e) (p .number);
+      output = rw (sym e) (p .output ∙ first-side n (cleared (imageSize W) out) (λ n0. left-written m (shown W s out) (image W (decodeValue (W .codec) s)) out (there n0)
+          ∙ ap (λ (k : ℕ). written k (image W (decodeValue (W .codec) s)) out) (p .number)));
+    }
 
 -- ---- encoding
 
--- an encoder that answers 0 has a sound record and the room
-pub done-both : (b : Bool) (len room : ℕ) → encodeAnswer b len room ≡ 0 → (b ≡ true) × (len ≤ room)
-unfolding encodeAnswer
-done-both b len room z = let both = both-hold b (leb len room) 3 3 (λ f z. omega arith) z in (both .0, leb-true _ _ (both .1))
+-- b is the refusal of the image, and m what is answered of it
+pub encoded : {R : Type 0} {W : View R} {Formed : R → Type 0} (L : Viewable W Formed) {f out out′ : List ℕ} {b m : ℕ} → b ≡ imageRefusal W f →
+    Stored b (size (W .codec .layout)) (stored W f out) out m out′ → ViewEncoded W f out m out′
+unfolding viewEncodeNumber viewEncodeOut
+encoded {R} {W} {Formed} L {f} {out} {out′} {b} {m} s p =
+    let fs = W .codec .layout in
+    let answered : m ≡ roomAnswer (imageRefusal W f) (size fs) (length out) = rw s at (p .number) in
+    let there : m ≡ 0 → stored W f out ≡ laid fs (numbers W f) ++ drop (length (laid fs (numbers W f))) out =
+    λ m0. puts-start fs (numbers W f) out (count-numbers W f (L .counted)) (room-done (imageRefusal W f) (size fs) (length out) (sym answered ∙ m0) .1) in
+    record {
+      number = answered;
+      output = p .output ∙ left-written m (stored W f out) (laid fs (numbers W f)) out there ∙ ap (λ (k : ℕ). written k (laid fs (numbers W f)) out) answered;
+    }
 
 is-zero : (b : Bool) → eqb (cond b 0 2) 0 ≡ b
 is-zero true = refl
 is-zero false = refl
 
 -- the decoder takes the bytes of numbers that fit where they obey the rule
-pub taken : {R : Type 0} (C : Codec R) (vs : List ℕ) → length vs ≡ length (C .layout) → Fit (C .layout) vs → eqb (decodeNumber C (laid (C .layout) vs)) 0 ≡ C .ok vs
+pub taken : {R : Type 0} (C : Codec R) (vs : List ℕ) → length vs ≡ length (C .layout) → Fit (C .layout) vs → eqb (decodeNumber C (laid (C .layout) vs)) 0 ≡ ok C vs
 unfolding decodeNumber
-taken C vs count fit = simp (eq-eqb _ _ (length-laid (C .layout) vs count), fields-laid (C .layout) vs fit) (is-zero (C .ok vs))
+taken C vs count fit = simp (eq-eqb _ _ (length-laid (C .layout) vs count), fields-laid (C .layout) vs fit) (is-zero (ok C vs))
 
-module _ {R : Type 0} (W : View R) {f out : List ℕ} where
-  pub encoded-length : (length f ≡ imageSize W → ⊥) → ViewEncoded W f out 1 out
-  unfolding viewEncodeNumber viewEncodeOut
-  encoded-length h = record { number = simp (ne-eqb _ _ h); output = simp (ne-eqb _ _ h) }
+-- ---- the refusal of an image f: its length, a number that does not fit, and bytes on trial, of which n is the decoder's number
 
-  -- b is the image's soundness, and n what the encoder answers of it
-  pub encoded-refused : {b : Bool} {n : ℕ} → length f ≡ imageSize W → b ≡ soundImage W f → n ≡ encodeAnswer b (size (W .codec .layout)) (length out) →
-      (n ≡ 0 → ⊥) → ViewEncoded W f out n out
-  unfolding viewEncodeNumber viewEncodeOut
-  encoded-refused e s p h =
-      let answered = p ∙ ap (λ (b : Bool). encodeAnswer b (size (W .codec .layout)) (length out)) s in
-      let no = ne-eqb (encodeAnswer (soundImage W f) (size (W .codec .layout)) (length out)) 0 (λ z. h (answered ∙ z)) in
-      record { number = simp (eq-eqb _ _ e) answered; output = simp (eq-eqb _ _ e, no) }
+module _ {R : Type 0} (W : View R) (f : List ℕ) where
+  pub refused-length : (length f ≡ imageSize W → ⊥) → 1 ≡ imageRefusal W f
+  unfolding imageRefusal
+  refused-length h = simp (ne-eqb _ _ h)
 
-  pub encoded-written : {b : Bool} {n : ℕ} {out′ : List ℕ} → length (W .slots) ≡ length (W .codec .layout) → length f ≡ imageSize W →
-      b ≡ soundImage W f → n ≡ encodeAnswer b (size (W .codec .layout)) (length out) → n ≡ 0 → out′ ≡ written W f out → ViewEncoded W f out 0 out′
-  unfolding viewEncodeNumber viewEncodeOut
-  encoded-written counted e s q n0 p =
-      let z = sym (q ∙ ap (λ (b : Bool). encodeAnswer b (size (W .codec .layout)) (length out)) s) ∙ n0 in
-      let count = length-spread (W .slots) (fieldsAt (wide (W .slots)) f 0) ∙ counted in
-      let room = done-both (soundImage W f) (size (W .codec .layout)) (length out) z .1 in
-      let there = puts-laid (W .codec .layout) (numbers W f) out 0 ∙ put-laid (W .codec .layout) (numbers W f) out count room in
-      record { number = simp (eq-eqb _ _ e, z); output = simp (eq-eqb _ _ e, z) (p ∙ there) }
+  pub refused-wide : length f ≡ imageSize W → fitting (W .codec .layout) (numbers W f) ≡ false → 3 ≡ imageRefusal W f
+  unfolding imageRefusal soundImage
+  refused-wide e h = simp (eq-eqb _ _ e, h)
 
--- bytes on trial: numbers that fit are a sound record's where the decoder takes their bytes
-pub on-trial : {R : Type 0} (W : View R) (f : List ℕ) {n : ℕ} {trial : List ℕ} → length (W .slots) ≡ length (W .codec .layout) → fitting (W .codec .layout) (numbers W f) ≡ true →
-    trial ≡ written W f (replicate (size (W .codec .layout)) 0) → n ≡ decodeNumber (W .codec) trial → eqb n 0 ≡ soundImage W f
-unfolding soundImage
-on-trial W f counted fits p e =
-    let fs = W .codec .layout in
-    let vs = numbers W f in
-    let zeros : List ℕ = replicate (size fs) 0 in
-    let count : length vs ≡ length fs = length-spread (W .slots) (fieldsAt (wide (W .slots)) f 0) ∙ counted in
-    let none : drop (size fs) zeros ≡ [] = drop-of-length-le zeros {i = size fs} (rw length-replicate (omega arith)) in
-    let there : written W f zeros ≡ laid fs vs =
-    puts-laid fs vs zeros 0 ∙ put-laid fs vs zeros count (rw length-replicate (omega arith)) ∙ ap (λ (l : List ℕ). laid fs vs ++ l) none ∙ append-nil (laid fs vs) in
-    simp fits (ap (λ (k : ℕ). eqb k 0) (e ∙ ap (decodeNumber (W .codec)) (p ∙ there)) ∙ taken (W .codec) vs count (fit-fitting fs vs count fits))
+module _ {R : Type 0} {W : View R} {Formed : R → Type 0} (L : Viewable W Formed) (f : List ℕ) (long : length f ≡ imageSize W) where
+  -- numbers that fit are a sound record's where the decoder takes their bytes
+  judged : {n m : ℕ} → fitting (W .codec .layout) (numbers W f) ≡ true → n ≡ decodeNumber (W .codec) (laid (W .codec .layout) (numbers W f)) → m ≡ cond (eqb n 0) 0 3 →
+      m ≡ imageRefusal W f
+  unfolding imageRefusal soundImage
+  judged fits q p =
+      let count = count-numbers W f (L .counted) in
+      let sound = ap (λ (k : ℕ). eqb k 0) q ∙ taken (W .codec) (numbers W f) count (fit-fitting (W .codec .layout) (numbers W f) count fits) in
+      simp (eq-eqb _ _ long, fits) (p ∙ ap unsoundNumber sound)
+
+  -- bytes that were put into zeros
+  pub on-trial : {n m : ℕ} {trial : List ℕ} → fitting (W .codec .layout) (numbers W f) ≡ true → trial ≡ stored W f (replicate (size (W .codec .layout)) 0) →
+      n ≡ decodeNumber (W .codec) trial → m ≡ cond (eqb n 0) 0 3 → m ≡ imageRefusal W f
+  on-trial fits t q p =
+      let fs = W .codec .layout in
+      let vs = numbers W f in
+      let zeros : List ℕ = replicate (size fs) 0 in
+      let none : drop (size fs) zeros ≡ [] = drop-of-length-le zeros {i = size fs} (rw length-replicate (omega arith)) in
+      let room : size fs ≤ length zeros = rw length-replicate (omega arith) in
+      let there : stored W f zeros ≡ laid fs vs =
+      puts-laid fs vs zeros 0 ∙ put-laid fs vs zeros (count-numbers W f (L .counted)) room ∙ ap (λ (l : List ℕ). laid fs vs ++ l) none ∙ append-nil (laid fs vs) in
+      judged fits (q ∙ ap (decodeNumber (W .codec)) (t ∙ there)) p
+
+  -- an image that is the record's bytes
+  pub on-itself : {n m : ℕ} → imageSize W ≡ size (W .codec .layout) → numbers W f ≡ fieldsAt (W .codec .layout) f 0 → Bytes f →
+      n ≡ decodeNumber (W .codec) f → m ≡ cond (eqb n 0) 0 3 → m ≡ imageRefusal W f
+  on-itself whole-size same h q p =
+      let fs = W .codec .layout in
+      let fits : fitting fs (numbers W f) ≡ true = rw same (fitting-fit fs (fieldsAt fs f 0) (fit-fields fs f 0 h)) in
+      judged fits (q ∙ ap (decodeNumber (W .codec)) (sym (ap (laid fs) same ∙ laid-fields fs f h (long ∙ whole-size)))) p

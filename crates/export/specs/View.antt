@@ -1,14 +1,15 @@
--- A record for programs in other languages: its own numbers side by side, each of eight octets with the least significant first, which is
--- how a C struct of `uint64_t` holds them on x86-64. What decoding into such an image gives and what encoding from one, for any codec; the
--- numbers given back are those of document 01, 'Numbers given back', with 1 also for an image of another length and 4 also for an image
--- without room. Assumes nothing.
+-- A record for programs in other languages: its own numbers side by side, least significant octet first. A number has eight octets, which
+-- is how a C struct of `uint64_t` holds it on x86-64; an address has its sixteen octets as they stand. What decoding into such an image
+-- gives and what encoding from one, for any codec; the numbers given back are those of document 01, 'Numbers given back', with 1 also for
+-- an image of another length and 4 also for an image without room. Assumes nothing.
 use Rattle.octets.specs.Words.{ℕ, _^_, _≡_, Bool, true, cond, _&&_, List, [], _∷_, _++_, length, drop, replicate, eqb, ltb, leb}
-use Rattle.octets.specs.Layout.{Field, little, width, size, fieldsAt, laid}
-use Rattle.octets.specs.Codec.{Codec, decodeNumber, decodeValue, encodeAnswer}
+use Rattle.codec.specs.Layout.{Field, little, width, size, fieldsAt, laid}
+use Rattle.codec.specs.Codec.{Codec, ok, decodeNumber, decodeValue, roomAnswer, unsoundNumber, written}
 
--- a field of a layout holds one of the record's own numbers, or always the same one: a mark, a version, a reserved zero
+-- a field of a layout holds one of the record's own numbers, which has so many octets in an image, or always the same number: a mark, a
+-- version, a reserved zero
 pub data Slot : Type 0 where
-  own : Slot
+  own : ℕ → Slot
   fixed : ℕ → Slot
 
 -- a view of a codec: what each field of its layout holds
@@ -20,20 +21,20 @@ pub record View (R : Type 0) : Type 0 where
 abbrev pub pick : List Slot → List ℕ → List ℕ
 pick [] vs = []
 pick (x ∷ xs) [] = []
-pick (own ∷ xs) (v ∷ vs) = v ∷ pick xs vs
+pick (own n ∷ xs) (v ∷ vs) = v ∷ pick xs vs
 pick (fixed n ∷ xs) (v ∷ vs) = pick xs vs
 
 -- the numbers of a layout whose own ones are given
 abbrev pub spread : List Slot → List ℕ → List ℕ
 spread [] ws = []
-spread (own ∷ xs) [] = 0 ∷ spread xs []
-spread (own ∷ xs) (w ∷ ws) = w ∷ spread xs ws
+spread (own n ∷ xs) [] = 0 ∷ spread xs []
+spread (own n ∷ xs) (w ∷ ws) = w ∷ spread xs ws
 spread (fixed n ∷ xs) ws = n ∷ spread xs ws
 
--- the layout of an image: eight octets for each own number
+-- the layout of an image
 abbrev pub wide : List Slot → List Field
 wide [] = []
-wide (own ∷ xs) = little 8 ∷ wide xs
+wide (own n ∷ xs) = little n ∷ wide xs
 wide (fixed n ∷ xs) = wide xs
 
 -- every number fits its field
@@ -56,15 +57,13 @@ module _ {R : Type 0} (W : View R) where
 
   -- Of bytes s and room for an image: 1 or 2 as of the decoder, else 4 where there is too little room, else 0.
   unfoldable pub viewDecodeNumber : List ℕ → List ℕ → ℕ
-  viewDecodeNumber s out = cond (eqb (decodeNumber (W .codec) s) 0) (cond (leb imageSize (length out)) 0 4) (decodeNumber (W .codec) s)
+  viewDecodeNumber s out = roomAnswer (decodeNumber (W .codec) s) imageSize (length out)
 
   -- What stands there then: under 0 the record's image at the start and the rest as it was; under 4 all as it was; under 1 and 2 zeros in
   -- the place of the image, where there is room, so that no older image is taken for the record
   unfoldable pub viewDecodeOut : List ℕ → List ℕ → List ℕ
   viewDecodeOut s out =
-      cond (eqb (decodeNumber (W .codec) s) 0)
-      (cond (leb imageSize (length out)) (image (decodeValue (W .codec) s) ++ drop imageSize out) out)
-      (cleared imageSize out)
+      cond (eqb (decodeNumber (W .codec) s) 0) (written (viewDecodeNumber s out) (image (decodeValue (W .codec) s)) out) (cleared imageSize out)
 
   -- the numbers of the layout that an image gives
   abbrev pub numbers : List ℕ → List ℕ
@@ -72,16 +71,19 @@ module _ {R : Type 0} (W : View R) where
 
   -- they are a sound record's where each fits its field and they obey the record's rule
   unfoldable pub soundImage : List ℕ → Bool
-  soundImage f = fitting (W .codec .layout) (numbers f) && W .codec .ok (numbers f)
+  soundImage f = fitting (W .codec .layout) (numbers f) && ok (W .codec) (numbers f)
 
-  -- Of an image f and an output: 1 where f has not the image's length, else as of an encoder: 3, 4 or 0.
+  -- the refusal of an image: 1 where it has not the image's length, else 3 where it is no sound record's; 0 where there is none
+  unfoldable pub imageRefusal : List ℕ → ℕ
+  imageRefusal f = cond (eqb (length f) imageSize) (unsoundNumber (soundImage f)) 1
+
+  -- Of an image f and an output: that refusal, else 4 where there is too little room for the record, else 0.
   unfoldable pub viewEncodeNumber : List ℕ → List ℕ → ℕ
-  viewEncodeNumber f out = cond (eqb (length f) imageSize) (encodeAnswer (soundImage f) (size (W .codec .layout)) (length out)) 1
+  viewEncodeNumber f out = roomAnswer (imageRefusal f) (size (W .codec .layout)) (length out)
 
   -- what the output holds then: under 0 the record's bytes at the start and the rest as it was; untouched on a refusal
   unfoldable pub viewEncodeOut : List ℕ → List ℕ → List ℕ
-  viewEncodeOut f out =
-      cond (eqb (viewEncodeNumber f out) 0) (laid (W .codec .layout) (numbers f) ++ drop (size (W .codec .layout)) out) out
+  viewEncodeOut f out = written (viewEncodeNumber f out) (laid (W .codec .layout) (numbers f)) out
 
   -- What a contract says of a call, in one form for every record. Of a decoder, on the bytes s, whose output held out and holds out′ then:
   pub record ViewDecoded (s out : List ℕ) (n : ℕ) (out′ : List ℕ) : Type 0 where

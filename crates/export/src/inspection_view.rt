@@ -2,39 +2,27 @@
 // the cookie value, which are zero with flag 0.
 use inspection::FenceInspection;
 ghost use Rattle.octets.specs.Words.{_≡_};
-ghost use Rattle.octets.specs.Stores.{puts};
-ghost use Rattle.inspection.specs.Inspection.{tailLayout, zeroTail};
-ghost use Rattle.export.specs.View.{soundImage, ViewDecoded, ViewEncoded};
+ghost use Rattle.octets.specs.Octets.{put, leBytes};
+ghost use Rattle.export.specs.View.{fitting, numbers, imageRefusal, ViewDecoded, ViewEncoded};
 ghost use Rattle.export.specs.Views.{inspectionView};
-ghost use Rattle.export.specs.Steps.{shown, written, begun};
+ghost use Rattle.export.specs.Inner.Steps.{stored};
 
 // The length of the fields.
 const FIELDS: usize = 88;
 
-// The fields of bytes.
-fn show(bytes: &[u8], fields: &mut [u8])
-    ensures { λ r. ⌜ now (fields .exit) ≡ shown inspectionView (now (bytes .entry)) (now (fields .entry)) ⌝ }
+// Whether each field fits its place.
+fn fits(fields: &[u8]) -> bool
+    ensures { λ r. ⌜ r ≡ fitting (inspectionView .codec .layout) (numbers inspectionView (now (fields .entry))) ⌝ }
 {
-    crate::view::widen_one(bytes, 6, fields, 0);
-    crate::view::widen_four(bytes, 12, fields, 8);
-    crate::view::copy(bytes, 16, fields, 16, 4);
-    crate::view::widen_four(bytes, 52, fields, 48);
-    crate::view::copy(bytes, 56, fields, 56, 4);
-}
-
-// Mark, version, the first field and the zero after it.
-fn write_head(fields: &[u8], out: &mut [u8])
-    ensures { λ r. ⌜ now (out .exit) ≡ begun inspectionView 4 (now (fields .entry)) (now (out .entry)) ⌝ }
-{
-    octets::put_u32_be(out, 0, FenceInspection::MARK);
-    octets::put_u16_le(out, 4, FenceInspection::VERSION);
-    crate::view::narrow_one(fields, 0, out, 6);
-    octets::put_u8(out, 7, 0);
+    let flag = octets::get_u64_le(fields, 0);
+    let published = octets::get_u64_le(fields, 8);
+    let state = octets::get_u64_le(fields, 48);
+    (flag < 0x100) & ((published < 0x1_0000_0000) & (state < 0x1_0000_0000))
 }
 
 // The forty zeros at the end.
 fn write_tail(out: &mut [u8])
-    ensures { λ r. ⌜ now (out .exit) ≡ puts tailLayout zeroTail (now (out .entry)) 88 ⌝ }
+    ensures { λ r. ⌜ now (out .exit) ≡ put (now (out .entry)) 88 (leBytes 40 0) ⌝ }
 {
     octets::put_u64_le(out, 88, 0);
     octets::put_u64_le(out, 96, 0);
@@ -45,9 +33,9 @@ fn write_tail(out: &mut [u8])
 
 // The bytes of fields.
 fn write(fields: &[u8], out: &mut [u8])
-    ensures { λ r. ⌜ now (out .exit) ≡ written inspectionView (now (fields .entry)) (now (out .entry)) ⌝ }
+    ensures { λ r. ⌜ now (out .exit) ≡ stored inspectionView (now (fields .entry)) (now (out .entry)) ⌝ }
 {
-    write_head(fields, out);
+    crate::view::write_head(fields, out, FenceInspection::MARK, FenceInspection::VERSION);
     octets::put_u32_le(out, 8, 0);
     crate::view::narrow_four(fields, 8, out, 12);
     crate::view::copy(fields, 16, out, 16, 4);
@@ -57,22 +45,20 @@ fn write(fields: &[u8], out: &mut [u8])
     write_tail(out);
 }
 
-// Whether fields are a record's: each fits its place, and the decoder takes the bytes that they give.
-fn is_sound(fields: &[u8]) -> bool
-    ensures { λ r. ⌜ r ≡ soundImage inspectionView (now (fields .entry)) ⌝ }
+// The refusal of fields: 1 for another length, 3 where one does not fit its place or the decoder does not take the bytes that they give,
+// else 0.
+fn refusal(fields: &[u8]) -> u32
+    ensures { λ r. ⌜ r ≡ imageRefusal inspectionView (now (fields .entry)) ⌝ }
 {
-    if 0xff < octets::get_u64_le(fields, 0) {
-        return false;
+    if fields.len() != FIELDS {
+        return 1;
     }
-    if 0xffff_ffff < octets::get_u64_le(fields, 8) {
-        return false;
-    }
-    if 0xffff_ffff < octets::get_u64_le(fields, 48) {
-        return false;
+    if !fits(fields) {
+        return 3;
     }
     let mut trial = [0u8; 128];
     write(fields, &mut trial);
-    FenceInspection::decode(&trial).number == 0
+    crate::view::trial_number(FenceInspection::decode(&trial).number)
 }
 
 // From bytes to fields.
@@ -83,7 +69,11 @@ pub extern "C" fn threadwicket_inspection_decode(bytes: &[u8], fields: &mut [u8]
     let read = FenceInspection::decode(bytes).number;
     let number = crate::view::decode_number(read, fields, FIELDS);
     if number == 0 {
-        show(bytes, fields);
+        crate::view::widen_one(bytes, 6, fields, 0);
+        crate::view::widen_four(bytes, 12, fields, 8);
+        crate::view::copy(bytes, 16, fields, 16, 4);
+        crate::view::widen_four(bytes, 52, fields, 48);
+        crate::view::copy(bytes, 56, fields, 56, 4);
     }
     number
 }
@@ -93,13 +83,9 @@ pub extern "C" fn threadwicket_inspection_decode(bytes: &[u8], fields: &mut [u8]
 pub extern "C" fn threadwicket_inspection_encode(fields: &[u8], bytes: &mut [u8]) -> u32
     ensures { λ r. ⌜ ViewEncoded inspectionView (now (fields .entry)) (now (bytes .entry)) r (now (bytes .exit)) ⌝ }
 {
-    if fields.len() != FIELDS {
-        return 1;
+    let number = codec::room_number(refusal(fields), FenceInspection::LEN, bytes.len());
+    if number == 0 {
+        write(fields, bytes);
     }
-    let number = octets::encode_number(is_sound(fields), FenceInspection::LEN, bytes.len());
-    if number != 0 {
-        return number;
-    }
-    write(fields, bytes);
-    0
+    number
 }

@@ -1,19 +1,17 @@
 // A key for programs in other languages. Its fields: cookie, token.
 use records::key::FenceCookieKey;
 ghost use Rattle.octets.specs.Words.{_≡_};
-ghost use Rattle.export.specs.View.{soundImage, ViewDecoded, ViewEncoded};
+ghost use Rattle.export.specs.View.{imageRefusal, ViewDecoded, ViewEncoded};
 ghost use Rattle.export.specs.Views.{keyView};
 
-// The length of the fields.
-const FIELDS: usize = 16;
-
-// Whether fields are a record's: the decoder takes the bytes that they give.
-fn is_sound(fields: &[u8]) -> bool
-    ensures { λ r. ⌜ r ≡ soundImage keyView (now (fields .entry)) ⌝ }
+// The refusal of fields: 1 for another length, 3 where the decoder does not take the bytes that they give, else 0.
+fn refusal(fields: &[u8]) -> u32
+    ensures { λ r. ⌜ r ≡ imageRefusal keyView (now (fields .entry)) ⌝ }
 {
-    let mut trial = [0u8; 16];
-    crate::view::copy(fields, 0, &mut trial, 0, 2);
-    FenceCookieKey::decode(&trial).number == 0
+    if fields.len() != 16 {
+        return 1;
+    }
+    crate::view::trial_number(FenceCookieKey::decode(fields).number)
 }
 
 // From bytes to fields.
@@ -21,12 +19,7 @@ fn is_sound(fields: &[u8]) -> bool
 pub extern "C" fn threadwicket_key_decode(bytes: &[u8], fields: &mut [u8]) -> u32
     ensures { λ r. ⌜ ViewDecoded keyView (now (bytes .entry)) (now (fields .entry)) r (now (fields .exit)) ⌝ }
 {
-    let read = FenceCookieKey::decode(bytes).number;
-    let number = crate::view::decode_number(read, fields, FIELDS);
-    if number == 0 {
-        crate::view::copy(bytes, 0, fields, 0, 2);
-    }
-    number
+    crate::view::show_pair(FenceCookieKey::decode(bytes).number, bytes, fields)
 }
 
 // From fields to bytes.
@@ -34,13 +27,5 @@ pub extern "C" fn threadwicket_key_decode(bytes: &[u8], fields: &mut [u8]) -> u3
 pub extern "C" fn threadwicket_key_encode(fields: &[u8], bytes: &mut [u8]) -> u32
     ensures { λ r. ⌜ ViewEncoded keyView (now (fields .entry)) (now (bytes .entry)) r (now (bytes .exit)) ⌝ }
 {
-    if fields.len() != FIELDS {
-        return 1;
-    }
-    let number = octets::encode_number(is_sound(fields), FenceCookieKey::LEN, bytes.len());
-    if number != 0 {
-        return number;
-    }
-    crate::view::copy(fields, 0, bytes, 0, 2);
-    0
+    crate::view::store_pair(refusal(fields), fields, bytes)
 }

@@ -10,28 +10,15 @@ mod key;
 mod mutation;
 mod view;
 
-use deadline::RefreshDeadlineDecision;
 use endpoint::ProtectedEndpoint;
-use packet::PacketEndpointDisposition;
 use units::BootNs;
-ghost use Rattle.octets.specs.Words.{_≤_, _≡_};
-ghost use Rattle.deadline.specs.Deadline.{decisionNumber, refreshDecision};
-ghost use Rattle.packet.specs.Answers.{dispositionNumber};
+ghost use Rattle.octets.specs.Words.{_≡_};
+ghost use Rattle.deadline.specs.Deadline.{refreshDecision};
 ghost use Rattle.packet.specs.Reading.{classifyOf};
 ghost use Rattle.export.specs.Export.{readingNumber};
 
 // An address in network order; an IPv4 one stands in the first four bytes.
 pub type Address = [u8; 16];
-
-fn number(disposition: PacketEndpointDisposition) -> u32
-    ensures { λ r. ⌜ (r ≡ dispositionNumber disposition) × (r ≤ 2) ⌝ }
-{
-    match disposition {
-        PacketEndpointDisposition::Protected => 0,
-        PacketEndpointDisposition::Unrelated => 1,
-        PacketEndpointDisposition::Indeterminate => 2,
-    }
-}
 
 // Reads a packet's source against an endpoint: 0 Protected, 1 Unrelated or 2 Indeterminate, and 256 for each extension header passed.
 #[no_mangle]
@@ -52,18 +39,7 @@ pub extern "C" fn threadwicket_classify(
         },
     );
     let disposition = reading.disposition;
-    number(disposition) + 256 * (reading.headers as u32)
-}
-
-fn decision_number(decision: RefreshDeadlineDecision) -> u32
-    ensures { λ r. ⌜ r ≡ decisionNumber decision ⌝ }
-{
-    match decision {
-        RefreshDeadlineDecision::PriorExpired => 0,
-        RefreshDeadlineDecision::RequestedDeadlineInvalid => 1,
-        RefreshDeadlineDecision::DeadlineRegressed => 2,
-        RefreshDeadlineDecision::Apply => 3,
-    }
+    (disposition.number() as u32) + 256 * (reading.headers as u32)
 }
 
 // Whether a requested deadline may take the place of the prior one: 0 PriorExpired, 1 RequestedDeadlineInvalid, 2 DeadlineRegressed or
@@ -72,9 +48,10 @@ fn decision_number(decision: RefreshDeadlineDecision) -> u32
 pub extern "C" fn threadwicket_refresh(observed: u64, prior: u64, requested: u64) -> u32
     ensures { λ r. ⌜ r ≡ refreshDecision observed prior requested ⌝ }
 {
-    decision_number(deadline::evaluate_refresh_deadlines(
+    let decision = deadline::evaluate_refresh_deadlines(
         BootNs(observed),
         BootNs(prior),
         BootNs(requested),
-    ))
+    );
+    decision.number() as u32
 }

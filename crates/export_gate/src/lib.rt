@@ -4,29 +4,12 @@ use gate::Socket;
 use units::BootNs;
 use units::RootCgroupId;
 use units::SocketCookie;
-use verdict::FenceVerdict;
-ghost use Rattle.octets.specs.Words.{_≤_, _≡_};
-ghost use Rattle.verdict.specs.Verdict.{slotOf};
-ghost use Rattle.gate.specs.Gate.{gateOf};
-ghost use Rattle.export_gate.specs.Export.{slotNumber, answerNumber};
+ghost use Rattle.octets.specs.Words.{_≡_};
+ghost use Rattle.gate.specs.Gate.{given, gateOf};
+ghost use Rattle.export_gate.specs.Export.{answerNumber};
 
 // An address in network order; an IPv4 one stands in the first four bytes.
 pub type Address = [u8; 16];
-
-fn slot_number(verdict: FenceVerdict) -> u32
-    ensures { λ r. ⌜ (r ≡ slotNumber (slotOf verdict)) × (r ≤ 255) ⌝ }
-{
-    match verdict {
-        FenceVerdict::PassUnrelated => 255,
-        FenceVerdict::Allow => 0,
-        FenceVerdict::DropCookieZero => 2,
-        FenceVerdict::DropMissing => 3,
-        FenceVerdict::DropClosed => 4,
-        FenceVerdict::DropExpired => 5,
-        FenceVerdict::DropMalformed => 6,
-        FenceVerdict::DropStaleToken => 7,
-    }
-}
 
 // The joined gate: the verdict's slot, or 255 for PassUnrelated, which has none, and 256 for each extension header passed.
 #[no_mangle]
@@ -42,16 +25,7 @@ pub extern "C" fn threadwicket_gate(
     table: &[u8],
     now_boot_ns: u64,
 ) -> u32
-    ensures { λ r. ⌜ r ≡ answerNumber (gateOf (record {
-      config = now (config .entry);
-      attachment = attachment;
-      socket = record { family = family; address = now (address .entry); port = port };
-      packet = now (packet .entry);
-      cookie = cookie;
-      current = now (current .entry);
-      table = now (table .entry);
-      time = «now_boot_ns»;
-    })) ⌝ }
+    ensures { λ r. ⌜ r ≡ answerNumber (gateOf (given (now (config .entry)) attachment (record { family = family; address = now (address .entry); port = port }) (now (packet .entry)) cookie (now (current .entry)) (now (table .entry)) «now_boot_ns»)) ⌝ }
 {
     let answer = gate::gate(
         config,
@@ -68,5 +42,6 @@ pub extern "C" fn threadwicket_gate(
         BootNs(now_boot_ns),
     );
     let verdict = answer.verdict;
-    slot_number(verdict) + 256 * (answer.headers as u32)
+    let slot = verdict.slot_number();
+    (slot as u32) + 256 * (answer.headers as u32)
 }

@@ -1,11 +1,9 @@
--- The laws of `gate`: the search, the rules, the answer as the contract's alone, isolation, the gate as `decide_egress`, a call for
--- each rule, and the edges. Assumes nothing.
+-- The laws of `gate`: the search, the rules, the answer as the contract's alone, isolation, the gate as `decide_egress`, and the
+-- examples. Assumes nothing.
 pub mod TableLaws
 pub mod RuleLaws
 pub mod Unique
 pub mod Rules
 pub mod IsolationLaw
-pub mod Dispositions
 pub mod DecidedLaw
-pub mod Witnesses
-pub mod Edges
+pub mod Examples

@@ -1,49 +1,61 @@
--- The laws of the list of rules: the first rule that applies answers, one law over the list and the place; and what each test of the
--- gate's code says of the rule that it stands for. Assumes nothing.
-use Rattle.octets.specs.Words.{ℕ, zero, suc, _≡_, Bool, true, false, cond, not, _&&_, _||_, List, [], _∷_, length, drop, eqb}
-use Rattle.octets.proofs.Tools.{refl, sym, ap, _∙_, true≢false, arith, eq-eqb, ne-eqb, eqb-true, eqb-false, not-true, not-false}
-use Rattle.octets.specs.Codec.{Codec, Decoded}
+-- The laws of the list of rules, each rule found by its number: one that does not apply is passed over, and one that applies answers.
+-- Then what each test of the gate's code says of the rule that it stands for. Assumes nothing.
+use Rattle.octets.specs.Words.{ℕ, _≡_, Bool, true, false, cond, not, List, [], _∷_, map, length, take, eqb}
+use Rattle.octets.proofs.Tools.{refl, sym, ap, _∙_, eq-eqb, ne-eqb, not-true, not-false}
+use Rattle.codec.specs.Codec.{Codec, Decoded}
 use Rattle.endpoint.specs.declared.ProtectedEndpoint.{ProtectedEndpoint}
-use Rattle.packet.specs.Reading.{classifyOf}
-use Rattle.gate.specs.declared.Socket.{Socket}
-use Rattle.gate.specs.Table.{records, under, firstOf}
 use Rattle.config.specs.Config.{configCodec}
+use Rattle.records.specs.Current.{currentCodec}
+use Rattle.packet.specs.Reading.{classifyOf}
+use Rattle.octets.proofs.Choices.{cond-all}
 use Rattle.verdict.specs.Verdict.{slotOf}
-use Rattle.verdict.specs.declared.CounterSlot.{CounterSlot}
-use Rattle.gate.specs.Gate.{Call, Rule, allow, rules, firstRule, answering, decodes, matches, root, endpoint, headersOf, gateOf}
-use Rattle.gate.specs.Steps.{sourceOf, soughtRecord}
-use Rattle.gate.proofs.TableLaws.{first-found}
+use Rattle.verdict.specs.declared.FenceVerdict.{FenceVerdict}
+use Rattle.gate.specs.declared.Socket.{Socket}
+use Rattle.gate.specs.declared.Ruling.{Ruling}
+use Rattle.gate.specs.Table.{records, under, firstOf}
+use Rattle.gate.specs.Gate.{Call, decodes, matches, root, differs, reading, token, unread, View, viewOf, Rule, allow, rules, firstRule, answering, headersOf, gateOf, answerOf}
+use Rattle.gate.specs.Inner.Steps.{sourceOf, soughtRecord, from, numbered, registration, Ruled}
+use Rattle.gate.proofs.TableLaws.{first-found, held, first-held}
 
 -- ---- the list
 
--- the rule at a place, counted from 0
-abbrev pub at : List Rule → ℕ → Rule
-at [] n = allow
-at (r ∷ rs) zero = r
-at (r ∷ rs) (suc n) = at rs n
+-- of the rules from the one numbered n on: those from the one numbered m on answer
+abbrev pub Past : ℕ → ℕ → View → Type 0
+Past n m v = firstRule (from n rules) v ≡ firstRule (from m rules) v
 
--- the rules from a place on: one that does not apply is passed over, and one that applies answers
-pub over : (rs : List Rule) (n : ℕ) (c : Call) → at rs n .applies c ≡ false → firstRule (drop n rs) c ≡ firstRule (drop (suc n) rs) c
-over [] n c e = absurd (true≢false e)
-over (r ∷ rs) zero c e = simp e
-over (r ∷ rs) (suc n) c e = over rs n c e
+module _ (v : View) (n : ℕ) {rest : List Rule} (listed : from n rules ≡ numbered n rules ∷ rest) where
+  pub over : numbered n rules .applies v ≡ false → firstRule (from n rules) v ≡ firstRule rest v
+  over e = rw (listed, e)
 
-pub here : (rs : List Rule) (n : ℕ) (c : Call) → at rs n .applies c ≡ true → firstRule (drop n rs) c ≡ at rs n
-here [] zero c e = refl
-here [] (suc n) c e = refl
-here (r ∷ rs) zero c e = simp e
-here (r ∷ rs) (suc n) c e = here rs n c e
+  pub here : numbered n rules .applies v ≡ true → firstRule (from n rules) v ≡ numbered n rules
+  here e = rw (listed, e)
+
+  -- so the number of the rule that answers is told
+  pub told : (m : ℕ) → Past m n v → numbered n rules .applies v ≡ true → numbered n rules .number ≡ firstRule (from m rules) v .number
+  told m p e = ap (λ r. r .number) (sym (p ∙ here e))
+
+-- what is the same of each rule in two ways is so of the rule that answers
+pub same-first : {X : Type 0} (f g : Rule → X) (rs : List Rule) (v : View) → map f rs ≡ map g rs → f allow ≡ g allow → f (firstRule rs v) ≡ g (firstRule rs v)
+same-first f g [] v e a = a
+same-first f g (r ∷ rs) v e a =
+    let here : f r ≡ g r = cc in
+    let later : map f rs ≡ map g rs = cc in
+    cond-all (λ x. f x ≡ g x) (r .applies v) here (same-first f g rs v later a)
+
+-- the rule that answers is the one of its number
+pub of-number : (v : View) → numbered (firstRule rules v .number) rules .verdict ≡ firstRule rules v .verdict
+unfolding rules
+of-number v = same-first (λ r. numbered (r .number) rules .verdict) (λ r. r .verdict) rules v refl refl
+
+-- so the answer is made of its number and of the reading
+pub answered : (c : Call) (r : Ruling) (x : FenceVerdict) → x ≡ numbered (r .rule) rules .verdict → Ruled c r →
+    answerOf (record { verdict = x; headers = r .reading .headers }) ≡ gateOf c
+unfolding answering headersOf gateOf
+answered c r x p q =
+    let verdict : x ≡ firstRule rules (viewOf c) .verdict = p ∙ ap (λ n. numbered n rules .verdict) (q .number) ∙ of-number (viewOf c) in
+    λ i. record { slot = slotOf (verdict i); headers = q .reading i .headers }
 
 -- ---- the tests
-
--- of two tests, neither of which holds
-pub or-left : (x y : Bool) → (x || y) ≡ false → x ≡ false
-or-left true y e = e
-or-left false y e = refl
-
-pub or-right : (x y : Bool) → (x || y) ≡ false → y ≡ false
-or-right true y e = absurd (true≢false e)
-or-right false y e = e
 
 -- of a decoder's number
 module _ {R : Type 0} (C : Codec R) {s : List ℕ} {n : ℕ} {v : R} (d : Decoded C s n v) where
@@ -53,72 +65,54 @@ module _ {R : Type 0} (C : Codec R) {s : List ℕ} {n : ℕ} {v : R} (d : Decode
   pub undecoded : (n ≡ 0 → ⊥) → not (decodes C s) ≡ true
   undecoded h = ap not (ne-eqb _ _ (λ e. h (d .number ∙ e)))
 
--- no bytes are found where no key is sought or no record stands under it
-no-bytes : (rs : List (List ℕ)) → length rs ≡ 0 → length (firstOf rs) ≡ 0
-unfolding firstOf
-no-bytes [] e = refl
-no-bytes (r ∷ rs) e = absurd (omega arith)
+-- of the packet's reading: under rules 1 and 2 it is not consulted, and past them where the socket differs
+module _ (c : Call) where
+  pub unread-1 : not (viewOf c .configured) ≡ true → viewOf c .reading ≡ unread
+  unfolding viewOf
+  unread-1 d = rw (not-true (decodes configCodec (c .config)) d)
 
-pub none-found : (k t : ℕ) (table : List ℕ) → eqb (length (firstOf (under k t (records table)))) 0 ≡ eqb (length (under k t (records table))) 0
-none-found k t table = go (eqb (length (under k t (records table))) 0) refl
-  where
-    go : (b : Bool) → eqb (length (under k t (records table))) 0 ≡ b → eqb (length (firstOf (under k t (records table)))) 0 ≡ b
-    go true q = eq-eqb _ _ (no-bytes _ (eqb-true _ _ q))
-    go false q = ne-eqb (length (firstOf (under k t (records table)))) 0 (λ e. absurd (omega (arith, first-found k t table (eqb-false _ _ q) .size)))
+  pub unread-2 : not (viewOf c .configured) ≡ false → not (viewOf c .attached) ≡ true → viewOf c .reading ≡ unread
+  unfolding viewOf
+  unread-2 d a = rw (not-false (decodes configCodec (c .config)) d, not-true (eqb (c .attachment) (root c)) a)
 
-pub missing : (k t : ℕ) (table : List ℕ) → eqb (length (soughtRecord k t table)) 0 ≡ (eqb t 0 || eqb (length (under k t (records table))) 0)
-unfolding soughtRecord
-missing k t table = go (eqb t 0)
-  where
-    go : (b : Bool) → eqb (length (cond b [] (firstOf (under k t (records table))))) 0 ≡ (b || eqb (length (under k t (records table))) 0)
-    go true = refl
-    go false = none-found k t table
+  pub consulted-read : not (viewOf c .configured) ≡ false → not (viewOf c .attached) ≡ false → viewOf c .reading ≡ cond (differs c) (reading c) unread
+  unfolding viewOf
+  consulted-read d a = rw (not-false (decodes configCodec (c .config)) d, not-false (eqb (c .attachment) (root c)) a)
 
--- and where a record is found, it is the first under the key
-pub found-first : (k t : ℕ) (table : List ℕ) → (eqb t 0 || eqb (length (under k t (records table))) 0) ≡ false → soughtRecord k t table ≡ firstOf (under k t (records table))
-unfolding soughtRecord
-found-first k t table = go (eqb t 0)
-  where
-    go : (b : Bool) → (b || eqb (length (under k t (records table))) 0) ≡ false → cond b [] (firstOf (under k t (records table))) ≡ firstOf (under k t (records table))
-    go true e = absurd (true≢false e)
-    go false e = refl
-
--- a packet whose socket matches is unread and none of rules 3 and 4's
-pub source-is : (s : Socket) (p : List ℕ) (e : ProtectedEndpoint) (n : ℕ) → (eqb 0 n ≡ false) →
-    eqb (sourceOf s p e .disposition) n ≡ (not (matches s e) && eqb (classifyOf p e .disposition) n)
+pub source-read : (s : Socket) (p : List ℕ) (e : ProtectedEndpoint) → cond (not (matches s e)) (classifyOf p e) unread ≡ sourceOf s p e
 unfolding sourceOf
-source-is s p e n z = go (matches s e)
+source-read s p e = go (matches s e)
   where
-    go : (b : Bool) → eqb (cond b (record { disposition = 0; headers = 0 }) (classifyOf p e) .disposition) n ≡ (not b && eqb (classifyOf p e .disposition) n)
-    go true = z
-    go false = refl
-
--- its header count is the packet's where the socket differs
-pub source-headers : (s : Socket) (p : List ℕ) (e : ProtectedEndpoint) → sourceOf s p e .headers ≡ cond (not (matches s e)) (classifyOf p e .headers) 0
-unfolding sourceOf
-source-headers s p e = go (matches s e)
-  where
-    go : (b : Bool) → cond b (record { disposition = 0; headers = 0 }) (classifyOf p e) .headers ≡ cond (not b) (classifyOf p e .headers) 0
+    go : (b : Bool) → cond (not b) (classifyOf p e) unread ≡ cond b unread (classifyOf p e)
     go true = refl
     go false = refl
 
--- ---- the answer, from its slot and its header count
+-- past rules 5 and 6 the record that the view has is the one that is sought under the token
+sought-held : (k t : ℕ) (table : List ℕ) → take 1 (cond (not (eqb t 0)) (under k t (records table)) []) ≡ held (soughtRecord k t table)
+unfolding soughtRecord
+sought-held k t table = go (eqb t 0)
+  where
+    go : (b : Bool) → take 1 (cond (not b) (under k t (records table)) []) ≡ held (cond b [] (firstOf (under k t (records table))))
+    go true = refl
+    go false = first-held (first-found k t table)
 
-pub answered : (c : Call) (s : CounterSlot) (h : ℕ) → s ≡ slotOf (firstRule rules c .verdict) → h ≡ headersOf c → record { slot = s; headers = h } ≡ gateOf c
-unfolding gateOf answering
-answered c s h p q = λ i. record { slot = p i; headers = q i }
+pub found-held : (c : Call) → eqb (c .cookie) 0 ≡ false → not (decodes currentCodec (c .current)) ≡ false →
+    viewOf c .found ≡ held (soughtRecord (c .cookie) (token c) (c .table))
+unfolding viewOf
+found-held c k d = rw (k, not-false (decodes currentCodec (c .current)) d) (sought-held (c .cookie) (token c) (c .table))
 
--- no header is counted under rules 1 and 2; past them those of the packet, if it is read
-pub headers-1 : (c : Call) → not (decodes configCodec (c .config)) ≡ true → 0 ≡ headersOf c
-unfolding headersOf
-headers-1 c e = rw (not-true (decodes configCodec (c .config)) e)
+pub held-none : (s : List ℕ) → eqb (length (held s)) 0 ≡ eqb (length s) 0
+held-none s = go (eqb (length s) 0)
+  where
+    go : (b : Bool) → eqb (length (cond b [] (s ∷ []))) 0 ≡ b
+    go true = refl
+    go false = refl
 
-pub headers-2 : (c : Call) → not (decodes configCodec (c .config)) ≡ false → not (eqb (c .attachment) (root c)) ≡ true → 0 ≡ headersOf c
-unfolding headersOf
-headers-2 c d e = rw (not-false (decodes configCodec (c .config)) d, not-true (eqb (c .attachment) (root c)) e)
+pub held-one : (s : List ℕ) → (length s ≡ 0 → ⊥) → held s ≡ s ∷ []
+held-one s h = rw (ne-eqb _ _ h)
 
-pub headers-read : (c : Call) → not (decodes configCodec (c .config)) ≡ false → not (eqb (c .attachment) (root c)) ≡ false →
-    sourceOf (c .socket) (c .packet) (endpoint c) .headers ≡ headersOf c
-unfolding headersOf
-headers-read c d e =
-    rw (not-false (decodes configCodec (c .config)) d, not-false (eqb (c .attachment) (root c)) e) (source-headers (c .socket) (c .packet) (endpoint c))
+-- rules 9 to 13 look at the record that is found, the registered cookie, k and the time
+pub at-record : (v : View) (f : List (List ℕ)) (g : ℕ) → v .found ≡ f → v .registered ≡ g →
+    firstRule (from 9 rules) v ≡ firstRule (from 9 rules) (registration f g (v .cookie) (v .time))
+unfolding rules
+at-record v f g p q = λ i. firstRule (from 9 rules) (registration (p i) (q i) (v .cookie) (v .time))

@@ -1,21 +1,21 @@
 -- The answer of each public function is its contract's alone. The gate's contract gives the slot and the count, and no two verdicts
--- have one slot. Of the search's answer, a part of the caller's table, it is stated of the bytes: the contract does not say where
--- they lie. Assumes nothing.
-use Rattle.octets.specs.Words.{_≡_}
+-- have one slot. Of the search's answer, a part of the caller's table, its bytes and its place: a part has a ghost name besides, which
+-- stands for nothing in the program. Assumes nothing.
+use Rattle.octets.specs.Words.{ℕ, _≡_, List}
 use Rattle.octets.proofs.Tools.{refl, sym, ap, _∙_}
-use denote.Ref.{now}
-use Rattle.octets.specs.Determined.{Determined}
+use Rattle.octets.proofs.UniqueLaws.{as-told, as-numbered}
+use denote.Ref.{ptr, now}
+use Rattle.octets.specs.Determined.{Determined, DeterminedAs}
 use Rattle.verdict.proofs.Unique.{slot-injective}
 use Rattle.gate.specs.Gate.{answerOf}
-use Rattle.gate.specs.Parts.{DeterminedPart}
 use Rattle.gate.specs.declared.GateAnswer.{GateAnswer}
 use Rattle.gate.proofs as the
 
-pub find-record-determined : DeterminedPart the.find_record.Kinds.ps the.find_record.Kinds.r the.find_record.Reads.Learnt (λ κs x. now x)
-find-record-determined κs a x y u v p q = (p ∙ sym q, refl)
+pub find-record-determined : DeterminedAs the.find_record.Kinds.ps the.find_record.Kinds.r the.find_record.Reads.Learnt {S = λ κs. List ℕ × (ℕ × ℕ)} (λ κs x. (now x, ptr x))
+find-record-determined κs a x y u v p q = (λ i. ((p .bytes ∙ sym (q .bytes)) i, (p .place ∙ sym (q .place)) i), refl)
 
 pub matches-determined : Determined the.Socket.matches.Kinds.ps the.Socket.matches.Kinds.r the.Socket.matches.Reads.Learnt
-matches-determined κs a x y u v p q = (p ∙ sym q, refl)
+matches-determined κs a x y u v = as-told
 
 pub answer-injective : (x y : GateAnswer) → answerOf x ≡ answerOf y → x ≡ y
 answer-injective x y e =
@@ -23,4 +23,4 @@ answer-injective x y e =
     λ i. record { verdict = v i; headers = e i .headers }
 
 pub gate-determined : Determined the.gate.Kinds.ps the.gate.Kinds.r the.gate.Reads.Learnt
-gate-determined κs a x y u v p q = (answer-injective x y (p ∙ sym q), refl)
+gate-determined κs a x y u v = as-numbered answerOf answer-injective x y

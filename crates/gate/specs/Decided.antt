@@ -1,15 +1,15 @@
 -- What `decide_egress` is given when the records decode: the packet's context and the authority's snapshot of a call (lib.rs,
 -- `PacketFenceContext` and `FenceAuthoritySnapshot`). Assumes nothing.
-use Rattle.octets.specs.Words.{ℕ, _≡_, Bool, false, cond, _||_, [], _∷_, length, eqb}
+use Rattle.octets.specs.Words.{ℕ, _≡_, Bool, false, cond, [], _∷_, length, eqb}
 use Rattle.records.specs.CookieValue.{entryOf}
 use Rattle.octets.specs.Lists.{among}
-use Rattle.packet.specs.Answers.{dispositionOf}
+use Rattle.packet.specs.Answers.{dispositionFrom}
 use Rattle.verdict.specs.Verdict.{egressVerdict}
 use Rattle.verdict.specs.declared.PacketFenceContext.{PacketFenceContext}
 use Rattle.verdict.specs.declared.FenceAuthoritySnapshot.{FenceAuthoritySnapshot}
 use Rattle.verdict.specs.declared.RegisteredEntry.{RegisteredEntry}
 use Rattle.verdict.specs.declared.RegisteredEntry.the-variants.{Absent, Present}
-use Rattle.gate.specs.Gate.{Call, matches, endpoint, root, reading, token, registered, sought, value, answering, gateOf}
+use Rattle.gate.specs.Gate.{Call, matches, endpoint, root, reading, token, registered, viewOf, value, answering, gateOf}
 
 -- the rules that answer because bytes do not decode, or a table is not one
 abbrev pub undecoded : ℕ → Bool
@@ -19,13 +19,13 @@ abbrev pub contextOf : Call → PacketFenceContext
 contextOf c = record {
   «attachment_identity_valid» = eqb (c .attachment) (root c);
   «socket_endpoint_matches» = matches (c .socket) (endpoint c);
-  «endpoint_disposition» = dispositionOf (reading c .disposition);
+  «endpoint_disposition» = dispositionFrom (reading c .disposition);
   «socket_cookie» = record { 0 = c .cookie };
 }
 
 -- the entry that is sought, if a key is and a record stands under it
 abbrev pub entryIn : Call → RegisteredEntry
-entryIn c = cond (eqb (token c) 0 || eqb (length (sought c)) 0) Absent (Present (entryOf (value c)))
+entryIn c = cond (eqb (length (viewOf c .found)) 0) Absent (Present (entryOf (value (viewOf c))))
 
 abbrev pub snapshotOf : Call → FenceAuthoritySnapshot
 snapshotOf c = record {

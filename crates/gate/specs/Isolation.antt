@@ -1,17 +1,12 @@
 -- Demand 3: what the gate's answer may depend on. Two calls have the same configuration, attachment number, socket, cookie, current
 -- record and boot time. All else may differ: of the packet its payload, its options, its destination, its checksums, every byte that
 -- is at no named place; of the table the records of other sockets and of other tokens, their number and their order, and later records
--- under the same key. Then verdict and header count are the same. Assumes nothing.
-use Rattle.octets.specs.Words.{_≡_, Bool, true, not, _&&_, length, eqb}
-use Rattle.records.specs.Current.{currentCodec}
+-- under the same key. Then the two calls have one view, so that rule, verdict and header count are the same. Assumes nothing.
+use Rattle.octets.specs.Words.{_≡_, true, length, take}
 use Rattle.octets.specs.Lists.{bytesAt}
 use Rattle.packet.specs.Places.{places}
-use Rattle.gate.specs.Table.{admissible, firstOf}
-use Rattle.gate.specs.Gate.{Call, decodes, endpoint, token, sought, gateOf}
-
--- "The key is sought when k is not 0, the current record decodes and its token, odd or even, is not 0"
-abbrev pub keySought : Call → Bool
-keySought c = not (eqb (c .cookie) 0) && (decodes currentCodec (c .current) && not (eqb (token c) 0))
+use Rattle.gate.specs.Table.{admissible}
+use Rattle.gate.specs.Gate.{Call, endpoint, sought, viewOf, answering, gateOf}
 
 pub record Alike (a b : Call) : Type 0 where
   -- the same configuration, attachment number, socket, cookie, current record and boot time
@@ -27,8 +22,16 @@ pub record Alike (a b : Call) : Type 0 where
   -- both tables of admissible length
   pub first-table : admissible (a .table) ≡ true
   pub second-table : admissible (b .table) ≡ true
-  -- if a key is sought, the same first record under it, or none in both: a record has forty bytes, none has no bytes
-  pub found : keySought a ≡ true → firstOf (sought a) ≡ firstOf (sought b)
+  -- the same first record under the key that is sought, or none in both; where no key is sought there is none in either
+  pub found : take 1 (sought a) ≡ take 1 (sought b)
+
+-- what the rules look at is equal: whatever is told of a call from its view is told alike of both
+abbrev pub SameView : Type 0
+SameView = (a b : Call) → Alike a b → viewOf a ≡ viewOf b
+
+-- the same rule answers
+abbrev pub SameRule : Type 0
+SameRule = (a b : Call) → Alike a b → answering a ≡ answering b
 
 -- verdict and header count are equal
 abbrev pub Isolated : Type 0

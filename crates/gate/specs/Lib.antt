@@ -1,7 +1,9 @@
--- The definitions that the contracts of `gate` cite, the gate against `decide_egress`, and demand 3. Assumes nothing.
+-- The definitions that the contracts of `gate` cite, the gate against `decide_egress`, demand 3, what is promised of the rules, and calls
+-- at their edges. Assumes nothing.
 pub mod Table
 pub mod Gate
-pub mod Steps
+pub mod Inner
 pub mod Decided
 pub mod Isolation
-pub mod Parts
+pub mod Promises
+pub mod Examples

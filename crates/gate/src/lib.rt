@@ -11,13 +11,12 @@ use units::DurableFenceToken;
 use units::RootCgroupId;
 use units::SocketCookie;
 use verdict::FenceVerdict;
-ghost use Rattle.octets.specs.Words.{_≡_, not, drop, eqb};
+ghost use Rattle.octets.specs.Words.{_≡_, not, [], _∷_, eqb};
 ghost use Rattle.packet.specs.Answers as reading;
 ghost use Rattle.records.specs.Entry.{closed};
-ghost use Rattle.verdict.specs.Verdict.{slotOf};
-ghost use Rattle.gate.specs.Table.{admissible, records, isUnder, under, firstOf};
-ghost use Rattle.gate.specs.Gate.{sameAddress, matches, stale, expired, rules, firstRule, gateOf, answerOf};
-ghost use Rattle.gate.specs.Steps.{sourceOf, soughtRecord, lookup};
+ghost use Rattle.gate.specs.Table.{admissible, isUnder, FirstUnder};
+ghost use Rattle.gate.specs.Gate.{given, sameAddress, matches, stale, expired, unread, viewOf, rules, firstRule, gateOf, answerOf};
+ghost use Rattle.gate.specs.Inner.Steps.{sourceOf, soughtRecord, from, numbered, lookup, registration, Ruled};
 
 // The longest table: 4,096 cookie values.
 pub const MAX_TABLE_LEN: usize = 163_840;
@@ -37,6 +36,12 @@ pub struct GateAnswer {
     pub headers: u8,
 }
 
+// Which rule answers a call, by its number, and what the packet reads as; where it was not read, as the endpoint's, with no header.
+struct Ruling {
+    rule: u8,
+    reading: PacketReading,
+}
+
 // ---- the search
 
 // Whether a cookie value stands under a key: its cookie is at 8, its token at 16.
@@ -51,7 +56,7 @@ fn is_under(bytes: &[u8], cookie: SocketCookie, token: DurableFenceToken) -> boo
 
 // The first whole record of the table with this cookie and token, as that part of the table; an empty part where there is none.
 pub fn find_record(table: &[u8], cookie: SocketCookie, token: DurableFenceToken) -> &[u8]
-    ensures { λ r. ⌜ now r ≡ firstOf (under (cookie .0) (token .0) (records (now (table .entry)))) ⌝ }
+    ensures { λ r. ⌜ FirstUnder (cookie .0) (token .0) (table .entry) r ⌝ }
 {
     if table.len() < FenceCookieValue::LEN {
         return &table[..0];
@@ -111,15 +116,22 @@ impl Socket {
     }
 }
 
-// Rules 3 and 4: the packet is read where the socket differs. Where it matches, the packet counts as the endpoint's, unread.
+// The reading of a packet that is not read: it counts as the endpoint's.
+fn unread() -> PacketReading
+    ensures { λ r. ⌜ reading.answerOf r ≡ unread ⌝ }
+{
+    PacketReading {
+        disposition: PacketEndpointDisposition::Protected,
+        headers: 0,
+    }
+}
+
+// Rules 3 and 4: the packet is read where the socket differs.
 fn read_source(socket: Socket, packet: &[u8], endpoint: ProtectedEndpoint) -> PacketReading
     ensures { λ r. ⌜ reading.answerOf r ≡ sourceOf socket (now (packet .entry)) endpoint ⌝ }
 {
     if socket.matches(endpoint) {
-        return PacketReading {
-            disposition: PacketEndpointDisposition::Protected,
-            headers: 0,
-        };
+        return unread();
     }
     packet::classify_l3_udp_source(packet, endpoint)
 }
@@ -176,61 +188,110 @@ fn is_expired(deadline: BootNs, now_boot_ns: BootNs) -> bool
     deadline.0 <= now_boot_ns.0
 }
 
-// ---- the rules in their order
+// ---- the rules in their order, each answering by its number
+
+// Rules 9 to 13: the record that was found under the key.
+fn judge(found: &[u8], registered: SocketCookie, cookie: SocketCookie, now_boot_ns: BootNs) -> u8
+    ensures { λ r. ⌜ r ≡ firstRule (from 9 rules) (registration (now (found .entry) ∷ []) (registered .0) (cookie .0) («now_boot_ns» .0)) .number ⌝ }
+{
+    let decoded = FenceCookieValue::decode(found);
+    if decoded.number != 0 {
+        return 9;
+    }
+    let value = decoded.value;
+    let state = value.state;
+    let deadline = value.deadline_boot_ns;
+    if is_stale(registered, cookie) {
+        return 10;
+    }
+    if is_closed(state) {
+        return 11;
+    }
+    if is_expired(deadline, now_boot_ns) {
+        return 12;
+    }
+    13
+}
 
 // Rules 5 to 13: the packet is the endpoint's, and its socket is looked up.
-fn authorize(
-    cookie: SocketCookie,
-    current: &[u8],
-    table: &[u8],
-    now_boot_ns: BootNs,
-) -> FenceVerdict
-    ensures { λ r. ⌜ slotOf r ≡ slotOf (firstRule (drop 4 rules) (lookup (cookie .0) (now (current .entry)) (now (table .entry)) («now_boot_ns» .0)) .verdict) ⌝ }
+fn authorize(cookie: SocketCookie, current: &[u8], table: &[u8], now_boot_ns: BootNs) -> u8
+    ensures { λ r. ⌜ r ≡ firstRule (from 5 rules) (viewOf (lookup (cookie .0) (now (current .entry)) (now (table .entry)) («now_boot_ns» .0))) .number ⌝ }
 {
     let own = cookie.0;
     if own == 0 {
-        return FenceVerdict::DropCookieZero;
+        return 5;
     }
     let published = CurrentFenceToken::decode(current);
     if published.number != 0 {
-        return FenceVerdict::DropMalformed;
+        return 6;
     }
     if !is_admissible(table) {
-        return FenceVerdict::DropMalformed;
+        return 7;
     }
     let authority = published.value;
     let token = authority.durable_fence_token;
     let registered = authority.registered_socket_cookie;
     let found = seek(table, cookie, token);
     if found.len() == 0 {
-        return FenceVerdict::DropMissing;
+        return 8;
     }
-    let registration = FenceCookieValue::decode(found);
-    if registration.number != 0 {
-        return FenceVerdict::DropMalformed;
-    }
-    let value = registration.value;
-    let state = value.state;
-    let deadline = value.deadline_boot_ns;
-    if is_stale(registered, cookie) {
-        return FenceVerdict::DropStaleToken;
-    }
-    if is_closed(state) {
-        return FenceVerdict::DropClosed;
-    }
-    if is_expired(deadline, now_boot_ns) {
-        return FenceVerdict::DropExpired;
-    }
-    FenceVerdict::Allow
+    judge(found, registered, cookie, now_boot_ns)
 }
 
-// The answer of rules 1 and 2, which look at no packet.
-fn malformed() -> GateAnswer
-    ensures { λ r. ⌜ r ≡ record { verdict = FenceVerdict.DropMalformed; headers = 0 } ⌝ }
+// A rule that answers before the packet is read.
+fn before_packet(rule: u8) -> Ruling
+    ensures { λ r. ⌜ (r .rule ≡ rule) × (reading.answerOf (r .reading) ≡ unread) ⌝ }
 {
-    GateAnswer {
-        verdict: FenceVerdict::DropMalformed,
-        headers: 0,
+    let reading = unread();
+    Ruling { rule, reading }
+}
+
+// The first of the thirteen rules that applies.
+fn first_rule(
+    config: &[u8],
+    attachment: RootCgroupId,
+    socket: Socket,
+    packet: &[u8],
+    cookie: SocketCookie,
+    current: &[u8],
+    table: &[u8],
+    now_boot_ns: BootNs,
+) -> Ruling
+    ensures { λ r. ⌜ Ruled (given (now (config .entry)) (attachment .0) socket (now (packet .entry)) (cookie .0) (now (current .entry)) (now (table .entry)) («now_boot_ns» .0)) r ⌝ }
+{
+    let configured = FenceConfig::decode(config);
+    if configured.number != 0 {
+        return before_packet(1);
+    }
+    let configuration = configured.value;
+    let endpoint = configuration.endpoint;
+    let root = configuration.root_cgroup_id;
+    if is_elsewhere(attachment, root) {
+        return before_packet(2);
+    }
+    let reading = read_source(socket, packet, endpoint);
+    let disposition = reading.disposition;
+    let rule = match disposition {
+        PacketEndpointDisposition::Unrelated => 3,
+        PacketEndpointDisposition::Indeterminate => 4,
+        PacketEndpointDisposition::Protected => authorize(cookie, current, table, now_boot_ns),
+    };
+    Ruling { rule, reading }
+}
+
+// A rule's verdict. A number that no rule bears lets nothing pass.
+fn verdict_of(rule: u8) -> FenceVerdict
+    ensures { λ r. ⌜ r ≡ numbered rule rules .verdict ⌝ }
+{
+    match rule {
+        3 => FenceVerdict::PassUnrelated,
+        5 => FenceVerdict::DropCookieZero,
+        8 => FenceVerdict::DropMissing,
+        10 => FenceVerdict::DropStaleToken,
+        11 => FenceVerdict::DropClosed,
+        12 => FenceVerdict::DropExpired,
+        13 => FenceVerdict::Allow,
+        _ => FenceVerdict::DropMalformed,
     }
 }
 
@@ -245,34 +306,20 @@ pub fn gate(
     table: &[u8],
     now_boot_ns: BootNs,
 ) -> GateAnswer
-    ensures { λ r. ⌜ answerOf r ≡ gateOf (record {
-      config = now (config .entry);
-      attachment = attachment .0;
-      socket = socket;
-      packet = now (packet .entry);
-      cookie = cookie .0;
-      current = now (current .entry);
-      table = now (table .entry);
-      time = «now_boot_ns» .0;
-    }) ⌝ }
+    ensures { λ r. ⌜ answerOf r ≡ gateOf (given (now (config .entry)) (attachment .0) socket (now (packet .entry)) (cookie .0) (now (current .entry)) (now (table .entry)) («now_boot_ns» .0)) ⌝ }
 {
-    let configured = FenceConfig::decode(config);
-    if configured.number != 0 {
-        return malformed();
-    }
-    let configuration = configured.value;
-    let endpoint = configuration.endpoint;
-    let root = configuration.root_cgroup_id;
-    if is_elsewhere(attachment, root) {
-        return malformed();
-    }
-    let reading = read_source(socket, packet, endpoint);
+    let ruling = first_rule(
+        config,
+        attachment,
+        socket,
+        packet,
+        cookie,
+        current,
+        table,
+        now_boot_ns,
+    );
+    let reading = ruling.reading;
     let headers = reading.headers;
-    let disposition = reading.disposition;
-    let verdict = match disposition {
-        PacketEndpointDisposition::Unrelated => FenceVerdict::PassUnrelated,
-        PacketEndpointDisposition::Indeterminate => FenceVerdict::DropMalformed,
-        PacketEndpointDisposition::Protected => authorize(cookie, current, table, now_boot_ns),
-    };
+    let verdict = verdict_of(ruling.rule);
     GateAnswer { verdict, headers }
 }

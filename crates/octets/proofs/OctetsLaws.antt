@@ -4,6 +4,7 @@
 -- Assumes nothing.
 use Rattle.octets.specs.Words.{ℕ, zero, suc, _+_, _-_, _*_, _/_, _%_, _^_, _<_, _≤_, _≡_, Bool, true, false, _&&_, List, [], _∷_, _++_, reverse, length, getD, take, drop, set, eqb}
 use Rattle.octets.proofs.Tools.{refl, sym, ap, _∙_, arith, eq-eqb, ne-eqb, eqb-true, eqb-false}
+use Rattle.octets.proofs.Choices.{and-assoc}
 use mathlib.Core.Path.{subst}
 use native.Mathlib.Nat.{add-zero, zero-add, suc-add, add-suc, add-assoc, add-comm, mul-assoc, mul-comm, mul-add, div-div-eq-div-mul, pow-zero, pow-suc, pow-succ', div-one, one-mul, div-lt-iff-lt-mul, lt-of-lt-of-le}
 use native.Mathlib.Numerals.{add-one}
@@ -52,7 +53,7 @@ le-zero : le (0 ∷ []) ≡ 0
 unfolding le
 le-zero = refl
 
-pow-pos : (n : ℕ) → 0 < 256 ^ n
+pub pow-pos : (n : ℕ) → 0 < 256 ^ n
 pow-pos zero = omega arith
 pow-pos (suc n) = rw pow-suc (let h : 0 < 256 ^ n = pow-pos n in omega arith)
 
@@ -212,10 +213,6 @@ beBytes-be s h =
 
 -- ---- parts that are zero, and parts that are equal
 
-and-assoc : (a b c : Bool) → (a && (b && c)) ≡ ((a && b) && c)
-and-assoc true b c = refl
-and-assoc false b c = refl
-
 digit-zero : (b n : ℕ) → eqb (b + 256 * n) 0 ≡ (eqb b 0 && eqb n 0)
 digit-zero b n = go (eqb b 0) (eqb n 0) refl refl
   where
@@ -253,7 +250,7 @@ unfolding octetsAt allZero
 zero-parts s at zero m = rw (zero-add, add-zero at)
 zero-parts s at (suc n) m =
     let e : at + 1 + n ≡ at + suc n = omega arith in
-    rw (suc-add, zero-parts s (at + 1) n m, e) (and-assoc (eqb (getD s at 0) 0) _ _)
+    rw (suc-add, zero-parts s (at + 1) n m, e, and-assoc)
 
 -- and octets are zero where the number that they spell is
 pub zero-number : (s : List ℕ) → eqb (le s) 0 ≡ allZero s

@@ -3,6 +3,7 @@
 use Rattle.octets.specs.Words.{ℕ, zero, suc, _+_, _*_, _<_, _≡_, Bool, true, false, _&&_, List, getD, eqb}
 use Rattle.octets.specs.Octets.{Bytes, octetsAt, le, sameOctets}
 use Rattle.octets.proofs.Tools.{refl, sym, ap, _∙_, arith, eq-eqb, ne-eqb, eqb-true, eqb-false}
+use Rattle.octets.proofs.Choices.{and-assoc}
 use native.Mathlib.Nat.{zero-add, add-zero, suc-add}
 
 digit-same : (x y p q : ℕ) → x < 256 → y < 256 → (eqb x y && eqb p q) ≡ eqb (x + 256 * p) (y + 256 * q)
@@ -21,10 +22,6 @@ same-numbers s t i j zero a b = refl
 same-numbers s t i j (suc n) a b =
     sym (digit-same (getD s i 0) (getD t j 0) _ _ (a i) (b j)) ∙ ap (λ r. eqb (getD s i 0) (getD t j 0) && r) (same-numbers s t (i + 1) (j + 1) n a b)
 
-and-assoc : (a b c : Bool) → (a && (b && c)) ≡ ((a && b) && c)
-and-assoc true b c = refl
-and-assoc false b c = refl
-
 -- and n + m octets where the first n are and the other m
 same-parts : (s t : List ℕ) (i j n m : ℕ) →
     sameOctets (octetsAt s i (n + m)) (octetsAt t j (n + m)) ≡ (sameOctets (octetsAt s i n) (octetsAt t j n) && sameOctets (octetsAt s (i + n) m) (octetsAt t (j + n) m))
@@ -33,7 +30,7 @@ same-parts s t i j zero m = rw (zero-add, add-zero i, add-zero j)
 same-parts s t i j (suc n) m =
     let u : i + 1 + n ≡ i + suc n = omega arith in
     let v : j + 1 + n ≡ j + suc n = omega arith in
-    rw (suc-add, same-parts s t (i + 1) (j + 1) n m, u, v) (and-assoc (eqb (getD s i 0) (getD t j 0)) _ _)
+    rw (suc-add, same-parts s t (i + 1) (j + 1) n m, u, v, and-assoc)
 
 -- so n + m octets are compared as two numbers
 pub same-halves : (s t : List ℕ) (i j n m : ℕ) → Bytes s → Bytes t →

@@ -1,6 +1,6 @@
 -- The count: a walk passes at most as many headers as its allowance has, by induction on the allowance; what stops before it has passed
 -- none. Assumes nothing.
-use Rattle.octets.specs.Words.{ℕ, zero, suc, _≤_, _≡_, not, _||_, List, length, eqb}
+use Rattle.octets.specs.Words.{ℕ, zero, suc, _≤_, not, _||_, List, length, eqb}
 use Rattle.octets.proofs.Tools.{refl, arith}
 use Rattle.octets.proofs.Choices.{cond-all}
 use Rattle.endpoint.specs.declared.ProtectedEndpoint.{ProtectedEndpoint}
@@ -27,7 +27,7 @@ unfolding walkOf stepOf sortOf
 udp-uncounted s p e zero c = refl
 udp-uncounted s p e (suc a) c = refl
 
-pub ipv6-count : (s : List ℕ) (p : ProtectedEndpoint) → ipv6Of s p .headers ≤ 4
+ipv6-count : (s : List ℕ) (p : ProtectedEndpoint) → ipv6Of s p .headers ≤ 4
 ipv6-count s p = followed 4 (ipv6Head s (p .address)) _ (walk-count s (p .port) _ 4)
 
 pub count-at-most-4 : CountAtMost4

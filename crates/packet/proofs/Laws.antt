@@ -1,10 +1,10 @@
 -- Laws of the definitions, which the proofs of the functions cite: what the sorting gives for the groups of a `match`, room told by a
 -- subtraction, and the walk a step at a time. Assumes nothing.
-use Rattle.octets.specs.Words.{ℕ, zero, suc, _+_, _-_, _*_, _<_, _≤_, _≡_, Bool, true, false, cond, not, _&&_, _||_, List, getD, eqb, ltb}
-use Rattle.octets.proofs.Tools.{refl, sym, ap, _∙_, arith, eq-eqb, ne-eqb, lt-ltb, le-ltb, eqb-true, eqb-false, ltb-true, ltb-false}
+use Rattle.octets.specs.Words.{ℕ, zero, suc, _+_, _-_, _*_, _<_, _≤_, _≡_, Bool, true, false, _||_, List, eqb, ltb}
+use Rattle.octets.proofs.Tools.{refl, sym, ap, _∙_, arith, ne-eqb, lt-ltb, le-ltb, ltb-true, ltb-false}
 use Rattle.octets.proofs.Choices.{cond-all}
 use mathlib.Core.Logic.{_⊎_, inl, inr, ⊎-elim}
-use native.Mathlib.Nat.{eq-or-lt-of-le, zero-add, add-zero, suc-add, mul-le-mul-right}
+use native.Mathlib.Nat.{eq-or-lt-of-le, mul-le-mul-right}
 use native.Mathlib.Numerals.{sub-one}
 use Rattle.packet.specs.declared.PacketEndpointDisposition.{PacketEndpointDisposition}
 use Rattle.packet.specs.declared.Step.{Step}

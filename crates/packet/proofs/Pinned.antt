@@ -8,7 +8,7 @@ use Rattle.octets.specs.Lists.{inside}
 use Rattle.packet.specs.Reading.{Answer, sortOf, udpOf, passOf, countedOf, fragmentOf, stepOf, walkOf, ipv4Head, ipv6Head, known, classifyOf}
 use Rattle.packet.specs.Places.{udpPlaces, stepPlaces, walkPlaces, named}
 use Rattle.packet.specs.Answers.{dispositionNumber}
-use Rattle.packet.specs.Pinned.{Pin, packetA, pinned, Each, Matters, PlacesPinned, NoneLeftOut}
+use Rattle.packet.specs.Pinned.{Pin, endpoint4500, A, pinned, Each, Matters, PlacesPinned, NoneLeftOut}
 
 differ : Answer → Answer → Bool
 differ r q = not (eqb (dispositionNumber (r .disposition)) (dispositionNumber (q .disposition)) && eqb (r .headers) (q .headers))
@@ -32,7 +32,7 @@ matters : Pin → ℕ → Bool
 matters x k = differ (classifyOf (set (x .packet) k (x .other)) (x .endpoint)) (classifyOf (x .packet) (x .endpoint))
 
 all-matter : every (λ x. every (matters x) (x .named)) pinned ≡ true
-unfolding every matters differ pinned packetA octetsAt le be sameOctets sortOf udpOf passOf countedOf fragmentOf stepOf walkOf ipv4Head ipv6Head known classifyOf
+unfolding every matters differ pinned endpoint4500 A octetsAt le be sameOctets sortOf udpOf passOf countedOf fragmentOf stepOf walkOf ipv4Head ipv6Head known classifyOf
 all-matter = refl
 
 pub none-left-out : NoneLeftOut
@@ -40,5 +40,5 @@ unfolding matters
 none-left-out = each _ _ (λ x. each (Matters x) (matters x) (λ k. apart _ _) (x .named)) pinned all-matter
 
 pub places-pinned : PlacesPinned
-unfolding pinned packetA octetsAt le be sameOctets sortOf udpOf passOf countedOf fragmentOf stepOf ipv4Head ipv6Head inside udpPlaces stepPlaces walkPlaces named
+unfolding pinned endpoint4500 A octetsAt le be sameOctets sortOf udpOf passOf countedOf fragmentOf stepOf ipv4Head ipv6Head inside udpPlaces stepPlaces walkPlaces named
 places-pinned = refl

@@ -14,11 +14,11 @@ pub record Pin : Type 0 where
   pub other : ℕ
 
 -- 192.0.2.10:4500, and 01's packet A from there
-abbrev pub endpoint4 : ProtectedEndpoint
-endpoint4 = record { family = 4; address = 192 ∷ 0 ∷ 2 ∷ 10 ∷ replicate 12 0; port = 4500 }
+unfoldable pub endpoint4500 : ProtectedEndpoint
+endpoint4500 = record { family = 4; address = 192 ∷ 0 ∷ 2 ∷ 10 ∷ replicate 12 0; port = 4500 }
 
-unfoldable pub packetA : List ℕ
-packetA =
+unfoldable pub A : List ℕ
+A =
     0x45 ∷ 0x00 ∷ 0x00 ∷ 0x1c ∷ 0x00 ∷ 0x00 ∷ 0x00 ∷ 0x00 ∷ 0x40 ∷ 0x11 ∷ 0x00 ∷ 0x00 ∷ 0xc0 ∷ 0x00 ∷ 0x02 ∷ 0x0a ∷
     0xc6 ∷ 0x33 ∷ 0x64 ∷ 0x01 ∷ 0x11 ∷ 0x94 ∷ 0x00 ∷ 0x35 ∷ 0x00 ∷ 0x08 ∷ 0x00 ∷ 0x00 ∷ []
 
@@ -56,7 +56,7 @@ pin s p l x = record { packet = s; endpoint = p; named = l; other = x }
 -- 253; and one of five headers, of which the fifth finds no allowance
 unfoldable pub pinned : List Pin
 pinned =
-    pin packetA endpoint4 (0 ∷ 2 ∷ 3 ∷ 6 ∷ 7 ∷ 9 ∷ (span 12 4 ++ span 20 2)) 0xff ∷
+    pin A endpoint4500 (0 ∷ 2 ∷ 3 ∷ 6 ∷ 7 ∷ 9 ∷ (span 12 4 ++ span 20 2)) 0xff ∷
     pin (packet6 0 (options 51 (authentication 44 (fragment 17 udp4500)))) endpoint6
     (fixed6 (40 ∷ 41 ∷ 48 ∷ 49 ∷ 60 ∷ 62 ∷ 63 ∷ 68 ∷ 69 ∷ [])) 0xff ∷
     pin (packet6 60 (options 6 (replicate 20 0))) endpoint6 (fixed6 (40 ∷ 41 ∷ [])) 0xff ∷

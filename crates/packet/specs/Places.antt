@@ -1,5 +1,5 @@
 -- Document 01, 'Places named for demand 3': the places of a packet, read against an endpoint, that may matter. Assumes nothing.
-use Rattle.octets.specs.Words.{ℕ, zero, suc, _+_, cond, _||_, List, [], _∷_, _++_, map, length, getD, eqb, ltb}
+use Rattle.octets.specs.Words.{ℕ, zero, suc, _+_, cond, List, [], _∷_, _++_, length, eqb, ltb}
 use Rattle.octets.specs.Lists.{span, inside}
 use Rattle.endpoint.specs.declared.ProtectedEndpoint.{ProtectedEndpoint}
 use Rattle.packet.specs.Rfc791 as ip4

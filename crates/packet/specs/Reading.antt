@@ -14,16 +14,6 @@ pub data Disposition : Type 0 where
   unrelated : Disposition
   indeterminate : Disposition
 
-abbrev pub isUnrelated : Disposition → Bool
-isUnrelated protected = false
-isUnrelated unrelated = true
-isUnrelated indeterminate = false
-
-abbrev pub isIndeterminate : Disposition → Bool
-isIndeterminate protected = false
-isIndeterminate unrelated = false
-isIndeterminate indeterminate = true
-
 -- an answer: the disposition, and the number of extension headers passed
 pub record Answer : Type 0 where
   pub disposition : Disposition

@@ -1,5 +1,5 @@
 -- What is promised of the five records of this crate: the laws of `codec`, of each by its own name. Assumes nothing.
-use Rattle.codec.specs.Promises.{Laws}
+use Rattle.codec.specs.Promises.{Laws, InOrder}
 use Rattle.records.specs.Key.{keyCodec, KeyFormed}
 use Rattle.records.specs.Mutation.{mutationCodec, MutationFormed}
 use Rattle.records.specs.Current.{currentCodec, CurrentFormed}
@@ -20,3 +20,7 @@ EntryLaws = Laws entryCodec EntryFormed
 
 abbrev pub CookieValueLaws : Type 0
 CookieValueLaws = Laws cookieValueCodec CookieValueFormed
+
+-- the tests of each are in the order of the offsets
+abbrev pub TestsInOrder : Type 0
+TestsInOrder = InOrder keyCodec × (InOrder mutationCodec × (InOrder currentCodec × (InOrder entryCodec × InOrder cookieValueCodec)))

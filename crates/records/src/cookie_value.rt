@@ -32,9 +32,14 @@ fn rule(
 ) -> bool
     ensures { λ r. ⌜ r ≡ ok cookieValueCodec (zeros ∷ control ∷ cookie .0 ∷ token .0 ∷ deadline .0 ∷ epoch .0 ∷ []) ⌝ }
 {
-    (zeros == 0)
-        & (crate::entry::is_listed(control)
-            & ((cookie.0 != 0) & crate::entry::state_fits(control, token, deadline, epoch)))
+    let own = cookie.0;
+    if zeros != 0 {
+        return false;
+    }
+    if own == 0 {
+        return false;
+    }
+    crate::entry::state_fits(control, token, deadline, epoch)
 }
 
 fn answer(

@@ -2,7 +2,7 @@
 use units::DurableFenceToken;
 use units::SocketCookie;
 ghost use Rattle.records.specs.Words.{_≡_, not, [], _∷_, eqb, put, asking, ok, bytes, Built, Decoded, Encoded, sound};
-ghost use Rattle.records.specs.Current.{current, openControl, retiredControl, currentListed, tokenFits, cookieFits, currentControl, currentCodec, lifecycleOpen, retirementClosed};
+ghost use Rattle.records.specs.Current.{current, openControl, retiredControl, currentControl, currentCodec, lifecycleOpen, retirementClosed};
 
 pub struct CurrentFenceToken {
     pub durable_fence_token: DurableFenceToken,
@@ -15,47 +15,25 @@ pub struct CurrentAnswer {
     pub value: CurrentFenceToken,
 }
 
-// Whether the control is one of the two words, or all is zero.
-fn is_listed(control: u32, token: DurableFenceToken, cookie: SocketCookie) -> bool
-    ensures { λ r. ⌜ r ≡ currentListed control (token .0) (cookie .0) ⌝ }
-{
-    if control == 0 {
-        return (token.0 == 0) & (cookie.0 == 0);
-    }
-    (control == CurrentFenceToken::LIFECYCLE_OPEN_CONTROL)
-        | (control == CurrentFenceToken::RETIREMENT_CLOSED_CONTROL)
-}
-
-// What the control asks of the token.
-fn token_fits(control: u32, token: DurableFenceToken) -> bool
-    ensures { λ r. ⌜ r ≡ tokenFits control (token .0) ⌝ }
+// The tests of the layout, by the control.
+fn rule(zeros: u32, control: u32, token: DurableFenceToken, cookie: SocketCookie) -> bool
+    ensures { λ r. ⌜ r ≡ ok currentCodec (zeros ∷ control ∷ token .0 ∷ cookie .0 ∷ []) ⌝ }
 {
     let number = token.0;
+    let registered = cookie.0;
+    if zeros != 0 {
+        return false;
+    }
     if control == CurrentFenceToken::LIFECYCLE_OPEN_CONTROL {
         return number % 2 != 0;
     }
     if control == CurrentFenceToken::RETIREMENT_CLOSED_CONTROL {
-        return (number % 2 == 0) & (number != 0);
+        return ((number % 2 == 0) & (number != 0)) & (registered == 0);
     }
-    true
-}
-
-// What the control asks of the cookie.
-fn cookie_fits(control: u32, cookie: SocketCookie) -> bool
-    ensures { λ r. ⌜ r ≡ cookieFits control (cookie .0) ⌝ }
-{
-    if control == CurrentFenceToken::RETIREMENT_CLOSED_CONTROL {
-        return cookie.0 == 0;
+    if control == 0 {
+        return (number == 0) & (registered == 0);
     }
-    true
-}
-
-fn rule(zeros: u32, control: u32, token: DurableFenceToken, cookie: SocketCookie) -> bool
-    ensures { λ r. ⌜ r ≡ ok currentCodec (zeros ∷ control ∷ token .0 ∷ cookie .0 ∷ []) ⌝ }
-{
-    (zeros == 0)
-        & (is_listed(control, token, cookie)
-            & (token_fits(control, token) & cookie_fits(control, cookie)))
+    false
 }
 
 fn answer(

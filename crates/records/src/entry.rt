@@ -29,46 +29,34 @@ pub struct EntryAnswer {
     pub value: FenceEntry,
 }
 
-// Whether a control word is one of the four.
-pub(crate) fn is_listed(control: u32) -> bool
-    ensures { λ r. ⌜ r ≡ stateListed control ⌝ }
-{
-    (control == FenceEntryState::INITIAL_CLOSED)
-        | ((control == FenceEntryState::ACTIVE)
-            | ((control == FenceEntryState::TERMINAL_CLOSED)
-                | (control == FenceEntryState::RECLAIMING)))
-}
-
-// What the control asks of the deadline.
-fn deadline_fits(control: u32, deadline: BootNs) -> bool
-    ensures { λ r. ⌜ r ≡ deadlineFits control (deadline .0) ⌝ }
-{
-    if control == FenceEntryState::ACTIVE {
-        return deadline.0 != 0;
-    }
-    deadline.0 == 0
-}
-
-// What the control asks of the epoch.
-fn epoch_fits(control: u32, epoch: ControlEpoch) -> bool
-    ensures { λ r. ⌜ r ≡ epochFits control (epoch .0) ⌝ }
-{
-    if control == FenceEntryState::INITIAL_CLOSED {
-        return epoch.0 == FenceEntry::INITIAL_EPOCH;
-    }
-    epoch.0 != 0
-}
-
-// The tests from the token on, which an entry and a cookie value share.
+// What a control word asks of token, deadline and epoch, for an entry and for a cookie value; a word that is not listed is refused.
 pub(crate) fn state_fits(
     control: u32,
     token: DurableFenceToken,
     deadline: BootNs,
     epoch: ControlEpoch,
 ) -> bool
-    ensures { λ r. ⌜ r ≡ (oddToken (token .0) && (deadlineFits control (deadline .0) && epochFits control (epoch .0))) ⌝ }
+    ensures { λ r. ⌜ r ≡ (stateListed control && (oddToken (token .0) && (deadlineFits control (deadline .0) && epochFits control (epoch .0)))) ⌝ }
 {
-    (token.0 % 2 != 0) & (deadline_fits(control, deadline) & epoch_fits(control, epoch))
+    let until = deadline.0;
+    let number = epoch.0;
+    let fence = token.0;
+    if fence % 2 == 0 {
+        return false;
+    }
+    if control == FenceEntryState::ACTIVE {
+        return (until != 0) & (number != 0);
+    }
+    if control == FenceEntryState::INITIAL_CLOSED {
+        return (until == 0) & (number == FenceEntry::INITIAL_EPOCH);
+    }
+    if control == FenceEntryState::TERMINAL_CLOSED {
+        return (until == 0) & (number != 0);
+    }
+    if control == FenceEntryState::RECLAIMING {
+        return (until == 0) & (number != 0);
+    }
+    false
 }
 
 fn rule(
@@ -80,7 +68,7 @@ fn rule(
 ) -> bool
     ensures { λ r. ⌜ r ≡ ok entryCodec (zeros ∷ control ∷ token .0 ∷ deadline .0 ∷ epoch .0 ∷ []) ⌝ }
 {
-    (zeros == 0) & (is_listed(control) & state_fits(control, token, deadline, epoch))
+    zeros == 0 && state_fits(control, token, deadline, epoch)
 }
 
 fn answer(

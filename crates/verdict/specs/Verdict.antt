@@ -1,7 +1,6 @@
 -- The egress verdict: 01's slots, and the order and tests of lib.rs's `decide_egress`. Assumes nothing.
 use Rattle.octets.specs.Words.{ℕ, Bool, false, cond, not, _&&_, _||_, List, [], _∷_, eqb, leb}
-use Rattle.packet.specs.Reading.{isUnrelated, isIndeterminate}
-use Rattle.packet.specs.Answers.{dispositionOf}
+use Rattle.packet.specs.Answers.{isUnrelated, isIndeterminate, dispositionOf}
 use Rattle.records.specs.Entry.{closed}
 use Rattle.records.specs.declared.entry.FenceEntry.{FenceEntry}
 use Rattle.verdict.specs.declared.FenceVerdict.{FenceVerdict}
@@ -47,7 +46,7 @@ staleAuthority k e a =
     (not (eqb k (a .«current_registered_socket_cookie» .0)) ||
     not (eqb (e .«durable_fence_token» .0) (a .«current_durable_fence_token» .0))))
 
--- "State not Active: DropClosed. Boot time at or past the deadline: DropExpired. Allow."
+-- "State not Active: DropClosed."; "Boot time at or past the deadline: DropExpired."; "Allow."
 unfoldable pub entryVerdict : FenceEntry → ℕ → CounterSlot
 entryVerdict e now = cond (closed (e .state)) (slotOf DropClosed) (cond (leb (e .«deadline_boot_ns» .0) now) (slotOf DropExpired) (slotOf Allow))
 

@@ -5,7 +5,7 @@ use records::entry::FenceEntryState;
 use units::BootNs;
 use units::DurableFenceToken;
 use units::SocketCookie;
-ghost use Rattle.octets.specs.Words.{_≡_, Bool};
+ghost use Rattle.octets.specs.Words.{_≡_};
 ghost use Rattle.verdict.specs.Verdict.{slotOf, slotNumbers, slotNumber, dropped, staleAuthority, entryVerdict, protectedVerdict, egressVerdict};
 
 // The slots of the counter map, which has eight; slot 1 is reserved.

@@ -1,7 +1,8 @@
 -- `has_room`: no listing is longer than the longest; else it is measured. Assumes nothing.
 use Rattle.octets.specs.Words.{_≤_, length, leb}
 use Rattle.octets.proofs.Tools.{sym, ap, _∙_, arith, needs, le-leb}
-use native.Mathlib.Nat.{zero-add}
+use Rattle.text.specs.Text.{lastPlace}
+use Rattle.text.proofs.TextLaws.{measures}
 use Rattle.bundle.specs.Listing.{listing}
 use Rattle.bundle.proofs.Bound.{no-longer}
 use Rattle.bundle.proofs.has_room.Statement.{statement}
@@ -16,10 +17,9 @@ returns c =
 returns-2 : tie.Need-returns-2
 returns-2 c =
     let put = c .before .before .before in
-    let room = put .before .before .before .before .before .before .args .room in
-    ap (λ n. leb n room) (put .put-listing .ensures .past ∙ zero-add _)
+    let a = put .before .before .before .before .before .before .args in
+    let fits : length (listing (a .input .now)) ≤ lastPlace = omega (arith, no-longer (a .input .now)) in
+    ap (λ n. leb n (a .room)) (put .put-listing .ensures .past ∙ measures (length (listing (a .input .now))) fits)
 
 pub has-room-spec : {M : Type 1} → statement M
-has-room-spec =
-    tie.close
-    (tie.spec returns (λ c. search needs) (λ c κs. search needs) (λ c. search needs) returns-2)
+has-room-spec = tie.close (tie.spec returns (λ c. search needs) (λ c κs. search needs) (λ c. search needs) returns-2)

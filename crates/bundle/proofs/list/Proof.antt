@@ -1,5 +1,7 @@
 -- `list`: the listing has room and is written, or nothing is. Assumes nothing.
-use Rattle.octets.proofs.Tools.{sym, _∙_, needs, not-true, not-false}
+use Rattle.octets.specs.Words.{_≤_, length}
+use Rattle.octets.proofs.Tools.{sym, _∙_, arith, needs, not-true, not-false}
+use Rattle.text.specs.Text.{lastPlace}
 use Rattle.bundle.proofs.ListingLaws.{refused, done}
 use Rattle.bundle.proofs.list.Statement.{statement}
 use Rattle.bundle.proofs.list.Tie as tie
@@ -11,16 +13,9 @@ returns-2 : tie.Need-returns-2
 returns-2 c =
     let put = c .before .before .before in
     let room = put .before .before .before in
-    done (sym (room .before .before .has-room .ensures) ∙ not-false _ (room .if1 .left)) (put .put-listing .ensures)
+    let fits : length (room .before .before .before .before .before .before .args .out .now) ≤ lastPlace = omega arith in
+    done fits (sym (room .before .before .has-room .ensures) ∙ not-false _ (room .if1 .left)) (put .put-listing .ensures)
 
 pub list-spec : {M : Type 1} → statement M
 list-spec =
-    tie.close
-    (tie.spec
-    (λ c. search needs)
-    (λ c κs. search needs)
-    returns
-    (λ c. search needs)
-    (λ c κs. search needs)
-    (λ c. search needs)
-    returns-2)
+    tie.close (tie.spec (λ c. search needs) (λ c κs. search needs) returns (λ c. search needs) (λ c κs. search needs) (λ c. search needs) returns-2)

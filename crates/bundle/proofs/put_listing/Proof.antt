@@ -1,5 +1,5 @@
 -- `put_listing`: by the test of the bundle's length. Assumes nothing.
-use Rattle.octets.proofs.Tools.{needs, lt-ltb, le-ltb}
+use Rattle.octets.proofs.Tools.{needs, free, lt-ltb, le-ltb}
 use Rattle.bundle.specs.Listing.{listing}
 use Rattle.bundle.proofs.put_listing.Statement.{statement}
 use Rattle.bundle.proofs.put_listing.Tie as tie
@@ -14,13 +14,4 @@ returns-2 c = let put = c .before .before .before .before in rw (le-ltb _ _ (put
 
 pub put-listing-spec : {M : Type 1} → statement M
 put-listing-spec =
-    tie.close
-    (tie.spec
-    (λ c. search needs)
-    (λ c κs. search needs)
-    (λ c. search needs)
-    returns
-    (λ c κs. search needs)
-    (λ c. search needs)
-    (λ c. search needs)
-    returns-2)
+    tie.close (tie.spec (λ c. search needs) free (λ c. search needs) returns (λ c κs. search needs) (λ c. search needs) (λ c. search needs) returns-2)

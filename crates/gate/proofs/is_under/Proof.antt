@@ -1,16 +1,13 @@
 -- `is_under`: the cookie first, then the token, as in the definition. Assumes nothing.
-use Rattle.octets.proofs.Tools.{needs, eq-eqb, ne-eqb}
+use Rattle.octets.proofs.Tools.{free, eq-eqb, ne-eqb}
 use Rattle.gate.specs.Table.{isUnder}
 use Rattle.gate.proofs.is_under.Statement.{statement}
 use Rattle.gate.proofs.is_under.Tie as tie
 
-returns : tie.Need-returns
-unfolding isUnder
-returns c = rw (← c .before .before .before .before .get-u64-le .ensures, ← c .before .get-u64-le2 .ensures, eq-eqb _ _ (c .before .before .if1 .taken))
-
-returns-2 : tie.Need-returns-2
-unfolding isUnder
-returns-2 c = rw (← c .before .before .get-u64-le .ensures, ne-eqb _ _ (c .if1 .left))
-
 pub is-under-spec : {M : Type 1} → statement M
-is-under-spec = tie.close (tie.spec (λ c κs. search needs) (λ c κs. search needs) returns returns-2)
+unfolding isUnder
+is-under-spec =
+    tie.close
+    (tie.spec free free
+    (λ c. rw (← c .before .before .before .before .get-u64-le .ensures, ← c .before .get-u64-le2 .ensures, eq-eqb _ _ (c .before .before .if1 .taken)))
+    (λ c. rw (← c .before .before .get-u64-le .ensures, ne-eqb _ _ (c .if1 .left))))

@@ -1,55 +1,32 @@
 -- `same_address`: four octets are compared as one number, sixteen as two. Assumes nothing.
-use Rattle.octets.proofs.Tools.{needs, eq-eqb, ne-eqb}
+use Rattle.octets.specs.Words.{_≡_, _&&_, eqb}
+use Rattle.octets.specs.Octets.{octetsAt, le}
+use Rattle.octets.proofs.Tools.{free, eq-eqb, ne-eqb}
 use Rattle.octets.proofs.SameLaws.{same-numbers, same-halves}
+use denote.Ref.{now}
 use Rattle.gate.specs.Gate.{sameAddress}
 use Rattle.gate.proofs.same_address.Statement.{statement}
 use Rattle.gate.proofs.same_address.Tie as tie
 
-returns : tie.Need-returns
+four : tie.Need-returns
 unfolding sameAddress
-returns c =
+four c =
     let known = c .before .before .before in
     rw (eq-eqb _ _ (c .before .before .if1 .taken), c .before .get-u32-le .ensures, c .get-u32-le2 .ensures)
     (same-numbers _ _ 0 0 4 (λ k. known .before .shared-slice-known .given k .fits) (λ k. known .shared-slice-known2 .given k .fits))
 
-returns-2 : tie.Need-returns-2
+-- where the first halves are read
+halves : (a : tie.After-get-u64-le2) → let args = a .before .before .before .before .before .args in
+    sameAddress (args .family) (now (args .a)) (now (args .b)) ≡
+    (eqb (a .before .get-u64-le .result) (a .get-u64-le2 .result) && eqb (le (octetsAt (now (args .a)) 8 8)) (le (octetsAt (now (args .b)) 8 8)))
 unfolding sameAddress
-returns-2 c =
-    let first = c .before .before .before in
-    let known = first .before .before .before in
-    rw (
-      ne-eqb _ _ (first .before .before .if1 .left),
-      same-halves _ _ 0 0 8 8 (λ k. known .before .shared-slice-known .given k .fits) (λ k. known .shared-slice-known2 .given k .fits),
-      ← first .before .get-u64-le .ensures,
-      ← first .get-u64-le2 .ensures,
-      ← c .before .get-u64-le3 .ensures,
-      ← c .get-u64-le4 .ensures,
-      eq-eqb _ _ (c .before .before .if2 .taken),
-    )
-
-returns-3 : tie.Need-returns-3
-unfolding sameAddress
-returns-3 c =
-    let first = c .before in
-    let known = first .before .before .before in
-    rw (
-      ne-eqb _ _ (first .before .before .if1 .left),
-      same-halves _ _ 0 0 8 8 (λ k. known .before .shared-slice-known .given k .fits) (λ k. known .shared-slice-known2 .given k .fits),
-      ← first .before .get-u64-le .ensures,
-      ← first .get-u64-le2 .ensures,
-      ne-eqb _ _ (c .if2 .left),
-    )
+halves a =
+    let known = a .before .before .before in
+    rw (ne-eqb _ _ (a .before .before .if1 .left), same-halves _ _ 0 0 8 8 (λ k. known .before .shared-slice-known .given k .fits) (λ k. known .shared-slice-known2 .given k .fits), ← a .before .get-u64-le .ensures, ← a .get-u64-le2 .ensures)
 
 pub same-address-spec : {M : Type 1} → statement M
 same-address-spec =
     tie.close
-    (tie.spec
-    (λ c κs. search needs)
-    (λ c κs. search needs)
-    returns
-    (λ c κs. search needs)
-    (λ c κs. search needs)
-    (λ c κs. search needs)
-    (λ c κs. search needs)
-    returns-2
-    returns-3)
+    (tie.spec free free four free free free free
+    (λ c. rw (halves (c .before .before .before), ← c .before .get-u64-le3 .ensures, ← c .get-u64-le4 .ensures, eq-eqb _ _ (c .before .before .if2 .taken)))
+    (λ c. rw (halves (c .before), ne-eqb _ _ (c .if2 .left))))

@@ -59,42 +59,14 @@ returns : tie.Need-returns
 unfolding ipv4Head
 returns c = simp (lt-ltb _ _ (c .before .if1 .taken)) (c .stopped .ensures)
 
-returns-2 : tie.Need-returns-2
-returns-2 c =
-    let a = c .before in
-    simp (left1 (a .before .before), ← a .before .get-u8 .ensures, lt-ltb _ _ (a .if2 .taken)) (c .stopped2 .ensures)
-
-returns-3 : tie.Need-returns-3
-returns-3 c =
-    let a = c .before in
-    simp (left2 (a .before .before .before .before .before), ← a .before .same-ipv4 .ensures, a .if3 .taken) (c .stopped3 .ensures)
-
-returns-4 : tie.Need-returns-4
-returns-4 c =
-    let a = c .before in
-    let b = a .before .before in
-    simp (left3 b, ← past3 b .before .get-u8 .ensures, ← a .before .get-u16-be .ensures, lt-ltb _ _ (a .if4 .taken)) (c .stopped4 .ensures)
-
-returns-5 : tie.Need-returns-5
-returns-5 c =
-    let a = c .before in
-    simp (left4 (a .before), ← a .before .before .get-u16-be .ensures, lt-ltb _ _ (a .if5 .taken)) (c .stopped5 .ensures)
-
-returns-6 : tie.Need-returns-6
-returns-6 c =
-    let a = c .before in
-    simp (left5 (a .before .before), ← a .before .get-u82 .ensures, ne-eqb _ _ (a .if6 .taken)) (c .stopped6 .ensures)
-
-returns-7 : tie.Need-returns-7
-returns-7 c =
-    let a = c .before in
-    simp (left6 (a .before .before), ← a .before .get-u16-be2 .ensures, ne-eqb _ _ (a .if7 .taken)) (c .stopped7 .ensures)
-
-returns-8 : tie.Need-returns-8
-returns-8 c =
-    let a = c .before .before in
-    let b = past6 (past7 a) .before in
-    simp (left7 a, ← past3 (past4 b) .before .get-u8 .ensures, ← b .before .get-u16-be .ensures) (c .stopped8 .ensures ∙ ap (stop 0) (c .before .udp .ensures))
-
 pub ipv4-spec : {M : Type 1} → statement M
-ipv4-spec = tie.close (tie.spec free returns free (λ c. search needs) (λ c. search needs) free returns-2 free free returns-3 free (λ c. search needs) free returns-4 free returns-5 free free returns-6 free free returns-7 free free returns-8)
+ipv4-spec = tie.close (tie.spec free returns free (λ c. search needs) (λ c. search needs) free
+    (λ c. let a = c .before in simp (left1 (a .before .before), ← a .before .get-u8 .ensures, lt-ltb _ _ (a .if2 .taken)) (c .stopped2 .ensures)) free free
+    (λ c. let a = c .before in simp (left2 (a .before .before .before .before .before), ← a .before .same-ipv4 .ensures, a .if3 .taken) (c .stopped3 .ensures)) free (λ c. search needs) free
+    (λ c. let a = c .before in let b = a .before .before in
+    simp (left3 b, ← past3 b .before .get-u8 .ensures, ← a .before .get-u16-be .ensures, lt-ltb _ _ (a .if4 .taken)) (c .stopped4 .ensures)) free
+    (λ c. let a = c .before in simp (left4 (a .before), ← a .before .before .get-u16-be .ensures, lt-ltb _ _ (a .if5 .taken)) (c .stopped5 .ensures)) free free
+    (λ c. let a = c .before in simp (left5 (a .before .before), ← a .before .get-u82 .ensures, ne-eqb _ _ (a .if6 .taken)) (c .stopped6 .ensures)) free free
+    (λ c. let a = c .before in simp (left6 (a .before .before), ← a .before .get-u16-be2 .ensures, ne-eqb _ _ (a .if7 .taken)) (c .stopped7 .ensures)) free free
+    (λ c. let a = c .before .before in let b = past6 (past7 a) .before in
+    simp (left7 a, ← past3 (past4 b) .before .get-u8 .ensures, ← b .before .get-u16-be .ensures) (c .stopped8 .ensures ∙ ap (stop 0) (c .before .udp .ensures))))

@@ -37,21 +37,6 @@ returns : tie.Need-returns
 unfolding ipv6Head
 returns c = simp (lt-ltb _ _ (c .before .if1 .taken)) (c .stopped .ensures)
 
-returns-2 : tie.Need-returns-2
-returns-2 c =
-    let a = c .before in
-    simp (left1 (a .before .before .before .before .before), ← a .before .same-ipv6 .ensures, a .if2 .taken) (c .stopped2 .ensures)
-
-returns-3 : tie.Need-returns-3
-returns-3 c =
-    let a = c .before in
-    simp (left2 (a .before .before), ← a .before .get-u16-be .ensures, eq-eqb _ _ (a .if3 .taken)) (c .stopped3 .ensures)
-
-returns-4 : tie.Need-returns-4
-returns-4 c =
-    let a = c .before in
-    simp (left3 (a .before), ← a .before .before .get-u16-be .ensures, lt-ltb _ _ (a .if4 .taken)) (c .stopped4 .ensures)
-
 returns-5 : tie.Need-returns-5
 returns-5 c =
     let walked = c .before in
@@ -61,4 +46,10 @@ returns-5 c =
     (answered _ _ _ (c .of-number .ensures ∙ ap dispositionNumbered (e .disposition) ∙ number-back _) (e .headers))
 
 pub ipv6-spec : {M : Type 1} → statement M
-ipv6-spec = tie.close (tie.spec free returns free free returns-2 free (λ c. search needs) free returns-3 (λ c. search needs) free returns-4 free (λ c κs. search needs) free returns-5)
+ipv6-spec = tie.close (tie.spec free returns free free
+    (λ c. let a = c .before in simp (left1 (a .before .before .before .before .before), ← a .before .same-ipv6 .ensures, a .if2 .taken) (c .stopped2 .ensures))
+    free (λ c. search needs) free
+    (λ c. let a = c .before in simp (left2 (a .before .before), ← a .before .get-u16-be .ensures, eq-eqb _ _ (a .if3 .taken)) (c .stopped3 .ensures))
+    (λ c. search needs) free
+    (λ c. let a = c .before in simp (left3 (a .before), ← a .before .before .get-u16-be .ensures, lt-ltb _ _ (a .if4 .taken)) (c .stopped4 .ensures))
+    free (λ c κs. search needs) free returns-5)

@@ -1,13 +1,9 @@
 -- `frame_at`: nothing left, a head that is cut, a body that is cut, or a whole frame. Assumes nothing.
 use Rattle.octets.specs.Words.{_<_, _≤_, length}
-use Rattle.octets.proofs.Tools.{arith, needs, le-leb, lt-leb, lt-ltb, le-ltb}
+use Rattle.octets.proofs.Tools.{arith, needs, free, le-leb, lt-leb, lt-ltb, le-ltb}
 use Rattle.bundle.specs.Frames.{lengthAt, past, frameAt}
 use Rattle.bundle.proofs.frames.frame_at.Statement.{statement}
 use Rattle.bundle.proofs.frames.frame_at.Tie as tie
-
-returns : tie.Need-returns
-unfolding frameAt
-returns c = simp (le-leb _ _ (c .if1 .taken))
 
 returns-2 : tie.Need-returns-2
 unfolding frameAt
@@ -34,16 +30,7 @@ returns-4 c =
     simp (lt-leb _ _ (b .before .if1 .left), le-ltb _ _ whole, ← n, ← c .before .get-u16-le .ensures) (c .frame-of .ensures)
 
 pub frame-at-spec : {M : Type 1} → statement M
+unfolding frameAt
 frame-at-spec =
-    tie.close
-    (tie.spec
-    returns
-    (λ c. search needs)
-    returns-2
-    (λ c κs. search needs)
-    (λ c. search needs)
-    returns-3
-    (λ c. search needs)
-    (λ c κs. search needs)
-    (λ c κs. search needs)
-    returns-4)
+    tie.close (tie.spec (λ c. simp (le-leb _ _ (c .if1 .taken))) (λ c. search needs) returns-2 free (λ c. search needs) returns-3 (λ c. search needs)
+    free free returns-4)

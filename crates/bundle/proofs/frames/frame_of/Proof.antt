@@ -32,12 +32,4 @@ returns-6 c =
 
 pub frame-of-spec : {M : Type 1} → statement M
 frame-of-spec =
-    tie.close
-    (tie.spec
-    free free free free
-    returns
-    returns-2
-    returns-3
-    returns-4
-    returns-5
-    returns-6)
+    tie.close (tie.spec free free free free returns returns-2 returns-3 returns-4 returns-5 returns-6)

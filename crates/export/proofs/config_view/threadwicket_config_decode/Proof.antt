@@ -1,26 +1,17 @@
--- `threadwicket_config_decode`: the answers of every decoder into an image. Assumes nothing.
-use Rattle.octets.proofs.Tools.{needs, free}
-use Rattle.config.proofs.ConfigLaws.{Formed}
+-- `threadwicket_config_decode`: the answers of every decoder into an image; one store for each field. Assumes nothing.
+use Rattle.octets.specs.Octets.{Bytes}
+use Rattle.export.proofs.ViewLaws.{needs, free, lit≤, decoded}
+use Rattle.export.proofs.StoreLaws.{shown-done, shown-refused, sixteen}
 use Rattle.export.specs.Views.{configView}
-use Rattle.export.proofs.ViewLaws.{decoded-refused, decoded-shown}
+use Rattle.export.specs.Inner.Steps.{shown}
 use Rattle.export.proofs.Viewables.{config-viewable}
-use Rattle.export.proofs.config_view.threadwicket_config_decode.Statement.{statement}
-use Rattle.export.proofs.config_view.threadwicket_config_decode.Tie as tie
+use Rattle.export.proofs.config_view.threadwicket_config_decode as the
 
-returns : tie.Need-returns
-returns c =
-    let shown = c .before .before in
-    let done = shown .before .before in
-    let answered = done .before .before .before in
-    let read = answered .before .before in
-    decoded-shown configView Formed config-viewable (λ k. read .before .before .shared-slice-known .given k .fits) (read .decode .ensures .number)
-    (answered .decode-number .ensures) (done .if1 .taken) (shown .show .ensures)
-
-returns-2 : tie.Need-returns-2
-returns-2 c =
-    let answered = c .before .before .before in
-    decoded-refused configView (answered .before .before .decode .ensures .number) (answered .decode-number .ensures) (c .if1 .left)
-
-pub threadwicket-config-decode-spec : {M : Type 1} → statement M
-threadwicket-config-decode-spec =
-    tie.close (tie.spec free free free (λ c. search needs) returns (λ c. search needs) returns-2)
+pub threadwicket-config-decode-spec : {M : Type 1} → the.Statement.statement M
+threadwicket-config-decode-spec = the.Tie.close (the.Tie.spec free free free free (λ c. search needs) free free (λ c κs. (lit≤ tt, lit≤ tt)) (λ c. search needs)
+    (λ c. let p4 = c .before .before in let p3 = p4 .before .before .before .before in let p2 = p3 .before .before .before .before in let p1 = p2 .before .before .before .before .before in
+    let t = p1 .before .before in let n = t .before .before .before in let d = n .before .before in let k = d .before .before in let s = k .before .args .bytes .now in let h : Bytes s = λ i. k .shared-slice-known .given i .fits in
+    decoded config-viewable h (d .decode .ensures .number) (shown-done (n .decode-number .ensures) (shown configView s) (t .if1 .taken)
+    (rw (p4 .copy .ensures, p3 .widen-four .ensures, p2 .put-u64-le .ensures, p2 .before .get-u16-be .ensures, p1 .widen-one .ensures, sixteen s 24 h))))
+    (λ c. search needs) (λ c. let n = c .before .before .before in let d = n .before .before in
+    decoded config-viewable (λ i. d .before .before .shared-slice-known .given i .fits) (d .decode .ensures .number) (shown-refused (n .decode-number .ensures) (c .if1 .left))))

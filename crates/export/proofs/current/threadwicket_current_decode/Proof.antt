@@ -1,27 +1,9 @@
 -- `threadwicket_current_decode`: the answers of every decoder into an image. Assumes nothing.
-use Rattle.octets.proofs.Tools.{needs, free}
-use lib.Dec.{lit≤}
-use Rattle.records.proofs.CurrentLaws.{Formed}
-use Rattle.export.specs.Views.{currentView}
-use Rattle.export.proofs.ViewLaws.{decoded-refused, decoded-shown}
+use Rattle.export.proofs.ViewLaws.{needs, free, lit≤, decoded}
 use Rattle.export.proofs.Viewables.{current-viewable}
-use Rattle.export.proofs.current.threadwicket_current_decode.Statement.{statement}
-use Rattle.export.proofs.current.threadwicket_current_decode.Tie as tie
+use Rattle.export.proofs.current.threadwicket_current_decode as the
 
-returns : tie.Need-returns
-returns c =
-    let shown = c .before .before in
-    let done = shown .before .before in
-    let answered = done .before .before .before in
-    let read = answered .before .before in
-    decoded-shown currentView Formed current-viewable (λ k. read .before .before .shared-slice-known .given k .fits) (read .decode .ensures .number)
-    (answered .decode-number .ensures) (done .if1 .taken) (shown .show-control .ensures)
-
-returns-2 : tie.Need-returns-2
-returns-2 c =
-    let answered = c .before .before .before in
-    decoded-refused currentView (answered .before .before .decode .ensures .number) (answered .decode-number .ensures) (c .if1 .left)
-
-pub threadwicket-current-decode-spec : {M : Type 1} → statement M
-threadwicket-current-decode-spec =
-    tie.close (tie.spec free free (λ c κs. lit≤ tt) (λ c. search needs) returns (λ c. search needs) returns-2)
+pub threadwicket-current-decode-spec : {M : Type 1} → the.Statement.statement M
+threadwicket-current-decode-spec = the.Tie.close (the.Tie.spec free (λ c κs. lit≤ tt) (λ c. search needs) (λ c.
+    let s = c .before .before in let d = s .before .before in
+    decoded current-viewable (λ k. d .before .before .shared-slice-known .given k .fits) (d .decode .ensures .number) (s .show-control .ensures)))

@@ -1,27 +1,7 @@
 -- `threadwicket_entry_encode`: the answers of every encoder from an image. Assumes nothing.
-use Rattle.octets.proofs.Tools.{refl, free}
-use lib.Dec.{lit≤}
-use Rattle.export.specs.Views.{entryView}
-use Rattle.export.proofs.ViewLaws.{encoded-length, encoded-refused, encoded-written}
-use Rattle.export.proofs.entry.threadwicket_entry_encode.Statement.{statement}
-use Rattle.export.proofs.entry.threadwicket_entry_encode.Tie as tie
+use Rattle.export.proofs.ViewLaws.{needs, free, lit≤, encoded}
+use Rattle.export.proofs.Viewables.{entry-viewable}
+use Rattle.export.proofs.entry.threadwicket_entry_encode as the
 
-returns : tie.Need-returns
-returns c = encoded-length entryView (c .if1 .taken)
-
-returns-2 : tie.Need-returns-2
-returns-2 c =
-    let numbered = c .before in
-    let judged = numbered .before in
-    encoded-refused entryView (judged .before .if1 .left) (judged .is-sound .ensures) (numbered .encode-number .ensures) (c .if2 .taken)
-
-returns-3 : tie.Need-returns-3
-returns-3 c =
-    let wrote = c .before .before in
-    let done = wrote .before .before in
-    let numbered = done .before in
-    let judged = numbered .before in
-    encoded-written entryView refl (judged .before .if1 .left) (judged .is-sound .ensures) (numbered .encode-number .ensures) (done .if2 .left) (wrote .write-control .ensures)
-
-pub threadwicket-entry-encode-spec : {M : Type 1} → statement M
-threadwicket-entry-encode-spec = tie.close (tie.spec returns free free returns-2 (λ c κs. lit≤ tt) (λ c. c .before .before .write-control .kept .1 .0) returns-3)
+pub threadwicket-entry-encode-spec : {M : Type 1} → the.Statement.statement M
+threadwicket-entry-encode-spec = the.Tie.close (the.Tie.spec free (λ c κs. lit≤ tt) (λ c. search needs) (λ c. encoded entry-viewable (c .before .before .before .before .refusal .ensures) (c .before .before .store-control .ensures)))

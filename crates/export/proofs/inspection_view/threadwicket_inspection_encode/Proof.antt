@@ -1,26 +1,11 @@
 -- `threadwicket_inspection_encode`: the answers of every encoder from an image. Assumes nothing.
-use Rattle.octets.proofs.Tools.{refl, free}
-use Rattle.export.specs.Views.{inspectionView}
-use Rattle.export.proofs.ViewLaws.{encoded-length, encoded-refused, encoded-written}
-use Rattle.export.proofs.inspection_view.threadwicket_inspection_encode.Statement.{statement}
-use Rattle.export.proofs.inspection_view.threadwicket_inspection_encode.Tie as tie
+use Rattle.export.proofs.ViewLaws.{needs, free, encoded}
+use Rattle.export.proofs.StoreLaws.{stored-done, stored-refused}
+use Rattle.export.proofs.Viewables.{inspection-viewable}
+use Rattle.export.proofs.inspection_view.threadwicket_inspection_encode as the
 
-returns : tie.Need-returns
-returns c = encoded-length inspectionView (c .if1 .taken)
-
-returns-2 : tie.Need-returns-2
-returns-2 c =
-    let numbered = c .before in
-    let judged = numbered .before in
-    encoded-refused inspectionView (judged .before .if1 .left) (judged .is-sound .ensures) (numbered .encode-number .ensures) (c .if2 .taken)
-
-returns-3 : tie.Need-returns-3
-returns-3 c =
-    let wrote = c .before .before in
-    let done = wrote .before .before in
-    let numbered = done .before in
-    let judged = numbered .before in
-    encoded-written inspectionView refl (judged .before .if1 .left) (judged .is-sound .ensures) (numbered .encode-number .ensures) (done .if2 .left) (wrote .write .ensures)
-
-pub threadwicket-inspection-encode-spec : {M : Type 1} → statement M
-threadwicket-inspection-encode-spec = tie.close (tie.spec returns free free returns-2 free (λ c. c .before .before .write .kept .1 .0) returns-3)
+pub threadwicket-inspection-encode-spec : {M : Type 1} → the.Statement.statement M
+threadwicket-inspection-encode-spec = the.Tie.close (the.Tie.spec free free free (λ c. search needs)
+    (λ c. let t = c .before .before .before .before in
+    encoded inspection-viewable (t .before .before .refusal .ensures) (stored-done (t .before .room-number .ensures) (t .if1 .taken) (c .before .before .write .ensures)))
+    (λ c. encoded inspection-viewable (c .before .before .refusal .ensures) (stored-refused (c .before .room-number .ensures) (c .if1 .left))))

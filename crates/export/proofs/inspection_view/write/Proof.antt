@@ -1,11 +1,6 @@
 -- `write`: one store for each field, in the order of the layout. Assumes nothing.
-use Rattle.octets.proofs.Tools.{needs, free}
-use lib.Dec.{lit≤}
-use Rattle.export.proofs.inspection_view.write.Statement.{statement}
-use Rattle.export.proofs.inspection_view.write.Tie as tie
+use Rattle.export.proofs.ViewLaws.{needs, free, lit≤}
+use Rattle.export.proofs.inspection_view.write as the
 
-returns : tie.Need-returns
-returns c = cc
-
-pub write-spec : {M : Type 1} → statement M
-write-spec = tie.close (tie.spec free free free (λ c κs. (lit≤ tt, lit≤ tt)) free free (λ c κs. (lit≤ tt, lit≤ tt)) free (λ c. search needs) returns)
+pub write-spec : {M : Type 1} → the.Statement.statement M
+write-spec = the.Tie.close (the.Tie.spec free free free (λ c κs. (lit≤ tt, lit≤ tt)) free free (λ c κs. (lit≤ tt, lit≤ tt)) free (λ c. search needs) (λ c. cc))

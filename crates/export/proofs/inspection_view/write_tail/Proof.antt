@@ -1,10 +1,7 @@
--- `write_tail`: one store for each field, in the order of the layout. Assumes nothing.
-use Rattle.octets.proofs.Tools.{needs, free}
-use Rattle.export.proofs.inspection_view.write_tail.Statement.{statement}
-use Rattle.export.proofs.inspection_view.write_tail.Tie as tie
+-- `write_tail`: forty zeros, eight at a time. Assumes nothing.
+use Rattle.export.proofs.ViewLaws.{needs, free}
+use Rattle.export.proofs.StoreLaws.{forty}
+use Rattle.export.proofs.inspection_view.write_tail as the
 
-returns : tie.Need-returns
-returns c = cc
-
-pub write-tail-spec : {M : Type 1} → statement M
-write-tail-spec = tie.close (tie.spec free free free free free (λ c. search needs) returns)
+pub write-tail-spec : {M : Type 1} → the.Statement.statement M
+write-tail-spec = the.Tie.close (the.Tie.spec free free free free free (λ c. search needs) (λ c. rw (forty (c .before .before .before .before .before .before .before .before .before .before .before .before .before .before .before .before .before .before .before .before .before .args .out .now)) (cc)))

@@ -1,7 +1,7 @@
 -- `copy`: while numbers are left, what all of them give is what the rest gives from here on. Assumes nothing.
 use Rattle.octets.specs.Words.{_+_, _*_, _≤_, _≡_, length}
-use Rattle.octets.proofs.Tools.{refl, sym, _∙_, arith, needs}
-use Rattle.export.specs.Steps.{copied}
+use Rattle.octets.proofs.Tools.{refl, sym, _∙_, arith, needs, free}
+use Rattle.export.specs.Inner.Steps.{copied}
 use Rattle.export.proofs.StoreLaws.{copy-step}
 use Rattle.export.proofs.view.copy.Statement.{statement}
 use Rattle.export.proofs.view.copy.Tie as tie
@@ -28,18 +28,5 @@ returns c =
     sym (rw (c .loop-test .left) at (state .inv .3))
 
 pub copy-spec : {M : Type 1} → statement M
-copy-spec =
-    tie.close
-    (tie.spec
-    Inv-loop
-    μ-loop
-    (λ c. (c .before .before .pre .0, c .before .before .pre .1, refl, refl))
-    (λ c κs. search needs)
-    (λ c κs. search needs)
-    (λ c. search needs)
-    (λ c. search needs)
-    (λ c. search needs)
-    (λ c. search needs)
-    loop-again
-    (λ c. search needs)
-    returns)
+copy-spec = tie.close (tie.spec Inv-loop μ-loop (λ c. (c .before .before .pre .0, c .before .before .pre .1, refl, refl)) free free
+    (λ c. search needs) (λ c. search needs) (λ c. search needs) (λ c. search needs) loop-again (λ c. search needs) returns)

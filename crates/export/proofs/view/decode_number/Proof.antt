@@ -1,23 +1,10 @@
--- `decode_number`: the tests are the definition's, in its order. Assumes nothing.
-use Rattle.octets.proofs.Tools.{ne-eqb, eq-eqb, lt-leb, le-leb, free}
-use Rattle.export.proofs.view.decode_number.Statement.{statement}
-use Rattle.export.proofs.view.decode_number.Tie as tie
+-- `decode_number`: a refusal is answered as it is, and else the room decides. Assumes nothing.
+use Rattle.octets.proofs.Tools.{needs, free}
+use Rattle.export.proofs.StoreLaws.{answer-refused, answer-room}
+use Rattle.export.proofs.view.decode_number as the
 
-returns : tie.Need-returns
-returns c =
-    let cleared = c .before .before in
-    let no = ne-eqb _ _ (cleared .before .before .if1 .taken) in
-    (simp no, simp no (cleared .clear .ensures))
-
-returns-2 : tie.Need-returns-2
-returns-2 c =
-    let zero = eq-eqb _ _ (c .before .if1 .left) in
-    (simp (zero, lt-leb _ _ (c .if2 .taken)), simp zero)
-
-returns-3 : tie.Need-returns-3
-returns-3 c =
-    let zero = eq-eqb _ _ (c .before .if1 .left) in
-    (simp (zero, le-leb _ _ (c .if2 .left)), simp zero)
-
-pub decode-number-spec : {M : Type 1} → statement M
-decode-number-spec = tie.close (tie.spec free (λ c. c .before .before .clear .kept .0) returns returns-2 returns-3)
+pub decode-number-spec : {M : Type 1} → the.Statement.statement M
+decode-number-spec = the.Tie.close (the.Tie.spec free (λ c. search needs) (λ c.
+    let cl = c .before .before in let t = cl .before .before in let a = t .before .before .args in
+    answer-refused (a .read) (a .n) (a .fields .now) (t .if1 .taken) (cl .clear .ensures)) free (λ c.
+    let a = c .before .before .before .args in answer-room (a .read) (a .n) (a .fields .now) (c .before .if1 .left) (c .room-number .ensures)))

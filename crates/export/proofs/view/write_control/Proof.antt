@@ -1,10 +1,6 @@
 -- `write_control`: the stores in their order. Assumes nothing.
 use Rattle.octets.proofs.Tools.{needs, free}
-use Rattle.export.proofs.view.write_control.Statement.{statement}
-use Rattle.export.proofs.view.write_control.Tie as tie
+use Rattle.export.proofs.view.write_control as the
 
-returns : tie.Need-returns
-returns c = cc
-
-pub write-control-spec : {M : Type 1} → statement M
-write-control-spec = tie.close (tie.spec free free (λ c κs. search needs) (λ c. search needs) returns)
+pub write-control-spec : {M : Type 1} → the.Statement.statement M
+write-control-spec = the.Tie.close (the.Tie.spec free free (λ c κs. search needs) (λ c. search needs) (λ c. cc))

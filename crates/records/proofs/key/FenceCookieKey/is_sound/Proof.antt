@@ -1,5 +1,5 @@
 -- `is_sound`: the tests are the definition's, in its order. Assumes nothing.
-use Rattle.codec.proofs.TestLaws.{and-true}
+use Rattle.octets.proofs.Choices.{and-true}
 use Rattle.records.proofs.key.FenceCookieKey.is_sound as the
 
 returns : the.Tie.Need-returns

@@ -1,6 +1,6 @@
 -- `is_sound`: the tests are the definition's, in its order. Assumes nothing.
 use Rattle.octets.proofs.Tools.{needs, eq-eqb, ne-eqb, lt-ltb, le-ltb}
-use Rattle.codec.proofs.TestLaws.{and-true}
+use Rattle.octets.proofs.Choices.{and-true}
 use Rattle.records.specs.Mutation.{claimFits}
 use Rattle.records.proofs.mutation.FenceMutationAuthority.is_sound as the
 

@@ -1,0 +1,2 @@
+-- What spans the layers: 01's examples. Assumes nothing.
+pub mod Examples

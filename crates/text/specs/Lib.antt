@@ -1,0 +1,3 @@
+-- The definitions that the contracts of `text` cite, and what is proved of them. Assumes nothing.
+pub mod Text
+pub mod Promises
