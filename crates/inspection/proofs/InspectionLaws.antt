@@ -27,7 +27,7 @@ use Rattle.inspection.specs.declared.inspected.InspectedEntry.the-varian
 use Rattle.inspection.specs.declared.FenceInspection.{FenceInspection}
 use Rattle.inspection.specs.Inspected.{flagListed, presentFlag, partFields, soundPart}
 use Rattle.inspection.specs.Inspection.{inspectionMark, inspection, frontTests, partTests, tailLayout, inspectionCodec, InspectionFormed}
-use Rattle.inspection.specs.Promises.{InspectionLaws, InspectionSound}
+use Rattle.inspection.specs.Promises.{InspectionLaws, InspectionInOrder, InspectionSound}
 use Rattle.inspection.proofs.PartLaws.{partFits, length-part, part-fits, part-back, part-forth}
 
 -- ---- the rule, part by part: what is asked from each part on
@@ -168,3 +168,6 @@ inspection-lawful = record {
 
 pub inspection-laws : InspectionLaws
 inspection-laws = laws inspection-lawful
+
+pub inspection-in-order : InspectionInOrder
+inspection-in-order = refl
