@@ -21,10 +21,15 @@ unfolding put leBytes
 in-zeros a b = refl
 
 -- read so, and stored into sixteen zeros
-pub read-halves : (s : List ℕ) (at : ℕ) {a b : ℕ} {d e : List ℕ} → Bytes s → a ≡ le (octetsAt s at 8) → b ≡ le (octetsAt s (at + 8) 8) →
+pub read-halves : (s : List ℕ) (at : ℕ) → Bytes s →
+    put (put (replicate 16 0) 0 (leBytes 8 (le (octetsAt s at 8)))) 8 (leBytes 8 (le (octetsAt s (at + 8) 8))) ≡ octetsAt s at 16
+read-halves s at h = in-zeros (le (octetsAt s at 8)) (le (octetsAt s (at + 8) 8)) ∙ sym (halves s at h)
+
+-- the same, of what was read and stored
+pub stored-halves : (s : List ℕ) (at : ℕ) {a b : ℕ} {d e : List ℕ} → Bytes s → a ≡ le (octetsAt s at 8) → b ≡ le (octetsAt s (at + 8) 8) →
     d ≡ put (replicate 16 0) 0 (leBytes 8 a) → e ≡ put d 8 (leBytes 8 b) → e ≡ octetsAt s at 16
-read-halves s at {a} {b} h p q f g =
-    g ∙ ap (λ l. put l 8 (leBytes 8 b)) f ∙ in-zeros a b ∙ (λ i. leBytes 8 (p i) ++ leBytes 8 (q i)) ∙ sym (halves s at h)
+stored-halves s at {a} {b} h p q f g =
+    g ∙ ap (λ l. put l 8 (leBytes 8 b)) f ∙ (λ i. put (put (replicate 16 0) 0 (leBytes 8 (p i))) 8 (leBytes 8 (q i))) ∙ read-halves s at h
 
 -- and written so
 pub put-halves : (a d : List ℕ) (at : ℕ) → Bytes a →

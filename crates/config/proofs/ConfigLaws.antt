@@ -16,7 +16,7 @@ use Rattle.endpoint.specs.Endpoint.{portUsable, familyListed, addressUsable, sp
 use Rattle.config.specs.declared.FenceConfig.{FenceConfig}
 use Rattle.config.specs.Config.{configMark, versionListed, capacityFits, config, endpointOf, configCodec, ConfigFormed}
 use Rattle.config.specs.Inner.Steps.{frameFits}
-use Rattle.config.specs.Promises.{ConfigLaws, ConfigSound}
+use Rattle.config.specs.Promises.{ConfigLaws, ConfigInOrder, ConfigSound}
 use Rattle.config.proofs.AddressLaws.{address-back}
 
 -- ---- the rule
@@ -82,3 +82,6 @@ config-lawful = record {
 
 pub config-laws : ConfigLaws
 config-laws = laws config-lawful
+
+pub config-in-order : ConfigInOrder
+config-in-order = refl

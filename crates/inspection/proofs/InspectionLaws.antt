@@ -27,7 +27,7 @@ use Rattle.inspection.specs.declared.inspected.InspectedEntry.the-varian
 use Rattle.inspection.specs.declared.FenceInspection.{FenceInspection}
 use Rattle.inspection.specs.Inspected.{flagListed, presentFlag, partFields, soundPart}
 use Rattle.inspection.specs.Inspection.{inspectionMark, inspection, frontTests, partTests, tailLayout, inspectionCodec, InspectionFormed}
-use Rattle.inspection.specs.Promises.{InspectionLaws, InspectionSound}
+use Rattle.inspection.specs.Promises.{InspectionLaws, InspectionInOrder, InspectionSound}
 use Rattle.inspection.proofs.PartLaws.{partFits, length-part, part-fits, part-back, part-forth}
 
 -- ---- the rule, part by part: what is asked from each part on
@@ -48,9 +48,9 @@ part-tests : (vs : List ℕ) → passes partTests vs ≡ partFits (getD vs 2 0) 
 part-tests vs =
     let entry : List Test = shifted 48 10 (cookieValueCodec .tests) in
     let none : List Test = test 48 (λ ws. allZero (take 6 (drop 10 ws))) ∷ [] in
-    passes-append (given (λ ws. eqb (getD ws 2 0) 1) entry) (given (λ ws. eqb (getD ws 2 0) 0) none) vs
-    ∙ (λ i. (passes-given (λ ws. eqb (getD ws 2 0) 1) entry vs ∙ ap (λ b. not (eqb (getD vs 2 0) 1) || b) (passes-shifted 48 10 (cookieValueCodec .tests) vs)) i
-    && (passes-given (λ ws. eqb (getD ws 2 0) 0) none vs ∙ ap (λ b. not (eqb (getD vs 2 0) 0) || b) (and-true (allZero (take 6 (drop 10 vs))))) i)
+    passes-append (given (λ ws. eqb (getD ws 2 0) 0) none) (given (λ ws. eqb (getD ws 2 0) 1) entry) vs
+    ∙ (λ i. (passes-given (λ ws. eqb (getD ws 2 0) 0) none vs ∙ ap (λ b. not (eqb (getD vs 2 0) 0) || b) (and-true (allZero (take 6 (drop 10 vs))))) i
+    && (passes-given (λ ws. eqb (getD ws 2 0) 1) entry vs ∙ ap (λ b. not (eqb (getD vs 2 0) 1) || b) (passes-shifted 48 10 (cookieValueCodec .tests) vs)) i)
 
 pub ruled : (vs : List ℕ) → ok inspectionCodec vs ≡ (passes frontTests vs && fromCurrent vs)
 ruled vs =
@@ -77,8 +77,8 @@ sound-parts : (c : CurrentFenceToken) (m : FenceMutationAuthority) (e : Inspecte
     (passes frontTests (inspectionCodec .fields (inspection c m e)) && fromCurrent (inspectionCodec .fields (inspection c m e)))
     ≡ (sound currentCodec c && (sound mutationCodec m && soundPart e))
 unfolding allZero
-sound-parts c m Absent = ap (λ b. sound currentCodec c && b) (ap (λ b. sound mutationCodec m && b) refl)
-sound-parts c m (Present v) = ap (λ b. sound currentCodec c && (sound mutationCodec m && b)) (and-true (sound cookieValueCodec v && true) ∙ and-true (sound cookieValueCodec v))
+sound-parts c m Absent = refl
+sound-parts c m (Present v) = ap (λ b. sound currentCodec c && (sound mutationCodec m && b)) (and-true (sound cookieValueCodec v))
 
 pub inspection-sound : InspectionSound
 inspection-sound v = ruled (inspectionCodec .fields v) ∙ sound-parts (v .current) (v .mutation) (v .entry)
@@ -168,3 +168,6 @@ inspection-lawful = record {
 
 pub inspection-laws : InspectionLaws
 inspection-laws = laws inspection-lawful
+
+pub inspection-in-order : InspectionInOrder
+inspection-in-order = refl

@@ -23,9 +23,9 @@ use Rattle.inspection.specs.declared.inspected.InspectedEntry.the-varian
 use Rattle.inspection.specs.Inspected.{flagListed, presentFlag, partFields, partNumbers, partOf, PartFormed}
 use Rattle.inspection.specs.Inner.Steps.{partTaken, partRead}
 
--- the rule under a flag: of flag 1 a cookie value, of flag 0 zeros
+-- the rule under a flag: of flag 0 zeros, of flag 1 a cookie value
 abbrev pub partFits : ℕ → List ℕ → Bool
-partFits flag vs = (not (eqb flag 1) || ok cookieValueCodec vs) && (not (eqb flag 0) || allZero (take 6 vs))
+partFits flag vs = (not (eqb flag 0) || allZero (take 6 vs)) && (not (eqb flag 1) || ok cookieValueCodec vs)
 
 -- ---- numbers
 
@@ -62,10 +62,10 @@ pub part-back : (f z k c t d e : ℕ) → let vs : List ℕ = sixes z k c t d e 
     Fit (cookieValueCodec .layout) vs → flagListed f ≡ true → partFits f vs ≡ true → partNumbers (partOf f vs) ≡ f ∷ vs
 part-back f z k c t d e fits listed h = go (eqb f 0) (eqb f 1) refl refl listed h
   where
-    go : (b₀ b₁ : Bool) → eqb f 0 ≡ b₀ → eqb f 1 ≡ b₁ → (b₀ || b₁) ≡ true → ((not b₁ || ok cookieValueCodec (sixes z k c t d e)) && (not b₀ || allZero (sixes z k c t d e))) ≡ true →
+    go : (b₀ b₁ : Bool) → eqb f 0 ≡ b₀ → eqb f 1 ≡ b₁ → (b₀ || b₁) ≡ true → ((not b₀ || allZero (sixes z k c t d e)) && (not b₁ || ok cookieValueCodec (sixes z k c t d e))) ≡ true →
         partNumbers (cond b₀ Absent (Present (cookieValueCodec .of (sixes z k c t d e)))) ≡ f ∷ sixes z k c t d e
-    go true b₁ e₀ e₁ l h = λ i. sym (eqb-true f 0 e₀) i ∷ zeros (sixes z k c t d e) (and-right (not b₁ || ok cookieValueCodec (sixes z k c t d e)) _ h) i
-    go false true e₀ e₁ l h = λ i. sym (eqb-true f 1 e₁) i ∷ cookie-value-lawful .back (sixes z k c t d e) fits (and-left (ok cookieValueCodec (sixes z k c t d e)) _ h) i
+    go true b₁ e₀ e₁ l h = λ i. sym (eqb-true f 0 e₀) i ∷ zeros (sixes z k c t d e) (and-left (allZero (sixes z k c t d e)) _ h) i
+    go false true e₀ e₁ l h = λ i. sym (eqb-true f 1 e₁) i ∷ cookie-value-lawful .back (sixes z k c t d e) fits h i
     go false false e₀ e₁ l h = absurd (true≢false (sym l))
 
 -- ---- reading
@@ -110,10 +110,10 @@ module _ (s : List ℕ) (long : length s ≡ 128) where
   taken flag listed = go (eqb flag 0) (eqb flag 1) refl refl listed
     where
       go : (b₀ b₁ : Bool) → eqb flag 0 ≡ b₀ → eqb flag 1 ≡ b₁ → (b₀ || b₁) ≡ true →
-          cond b₀ (allZero (octetsAt octets 0 40)) (eqb (decodeNumber cookieValueCodec octets) 0) ≡ ((not b₁ || ok cookieValueCodec numbers) && (not b₀ || allZero numbers))
+          cond b₀ (allZero (octetsAt octets 0 40)) (eqb (decodeNumber cookieValueCodec octets) 0) ≡ ((not b₀ || allZero numbers) && (not b₁ || ok cookieValueCodec numbers))
       go true true e₀ e₁ l = absurd (omega (arith, eqb-true flag 0 e₀, eqb-true flag 1 e₁))
-      go true false e₀ e₁ l = absent
-      go false true e₀ e₁ l = zero-ok read ∙ sym (and-true (ok cookieValueCodec numbers))
+      go true false e₀ e₁ l = absent ∙ sym (and-true (allZero numbers))
+      go false true e₀ e₁ l = zero-ok read
       go false false e₀ e₁ l = absurd (true≢false (sym l))
 
   -- and then they give the entry of their numbers

@@ -26,11 +26,11 @@ inspection c m e = record { current = c; mutation = m; entry = e }
 abbrev pub frontTests : List Test
 frontTests = headTests inspectionMark (λ version. eqb version 5) flagListed
 
--- with flag 1 a cookie value at 48, after ten fields; with flag 0 zeros in its place
+-- with flag 0 zeros at 48; with flag 1 a cookie value there, after ten fields
 abbrev pub partTests : List Test
 partTests =
-    given (λ vs. eqb (getD vs 2 0) 1) (shifted 48 10 (cookieValueCodec .tests)) ++
-    given (λ vs. eqb (getD vs 2 0) 0) (test 48 (λ vs. allZero (take 6 (drop 10 vs))) ∷ [])
+    given (λ vs. eqb (getD vs 2 0) 0) (test 48 (λ vs. allZero (take 6 (drop 10 vs))) ∷ []) ++
+    given (λ vs. eqb (getD vs 2 0) 1) (shifted 48 10 (cookieValueCodec .tests))
 
 -- the forty octets at the end
 abbrev pub tailLayout : List Field
