@@ -25,7 +25,7 @@ pub struct EndpointAnswer {
 fn usable_ipv4(address: [u8; 16]) -> bool
     ensures { λ r. ⌜ r ≡ usableIpv4 address ⌝ }
 {
-    if octets::is_zero(&address, 0, 4) {
+    if octets::get_u32_le(&address, 0) == 0 {
         return false;
     }
     address[0] < 224
