@@ -25,7 +25,7 @@ pub struct EndpointAnswer {
 fn usable_ipv4(address: [u8; 16]) -> bool
     ensures { λ r. ⌜ r ≡ usableIpv4 address ⌝ }
 {
-    if octets::get_u32_le(&address, 0) == 0 {
+    if octets::is_zero(&address, 0, 4) {
         return false;
     }
     address[0] < 224
@@ -83,7 +83,7 @@ fn usable_ipv6(address: [u8; 16]) -> bool
 fn spare_is_zero(address: [u8; 16]) -> bool
     ensures { λ r. ⌜ r ≡ allZero (octetsAt address 4 12) ⌝ }
 {
-    (octets::get_u32_le(&address, 4) == 0) & (octets::get_u64_le(&address, 8) == 0)
+    octets::is_zero(&address, 4, 12)
 }
 
 // An IPv4 address in its place, the spare bytes zero.

@@ -25,7 +25,7 @@ pub(crate) fn read_part(flag: u8, s: &[u8]) -> PartAnswer
 {
     if flag == 0 {
         return PartAnswer {
-            taken: octets::is_zero(s, 0, FenceCookieValue::LEN),
+            taken: octets::is_zero_run(s, 0, FenceCookieValue::LEN),
             value: InspectedEntry::Absent,
         };
     }

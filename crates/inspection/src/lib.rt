@@ -132,7 +132,7 @@ impl FenceInspection {
         if !part.taken {
             return refused(2);
         }
-        if !octets::is_zero(s, 88, 40) {
+        if !octets::is_zero_run(s, 88, 40) {
             return refused(2);
         }
         let current = current.value;

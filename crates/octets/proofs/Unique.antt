@@ -30,6 +30,9 @@ get-u64-be-determined κs a x y u v = as-told
 pub is-zero-determined : Determined the.is_zero.Kinds.ps the.is_zero.Kinds.r the.is_zero.Reads.Learnt
 is-zero-determined κs a x y u v = as-told
 
+pub is-zero-run-determined : Determined the.is_zero_run.Kinds.ps the.is_zero_run.Kinds.r the.is_zero_run.Reads.Learnt
+is-zero-run-determined κs a x y u v = as-told
+
 pub same-determined : Determined the.same.Kinds.ps the.same.Kinds.r the.same.Reads.Learnt
 same-determined κs a x y u v = as-told
 

@@ -163,8 +163,8 @@ pub fn put_u64_be(d: &mut [u8], at: usize, v: u64)
 
 // ---- parts of slices
 
-// Octet by octet, whether n octets of s from at on are all zero.
-fn is_zero_by_one(s: &[u8], at: usize, n: usize) -> bool
+// Whether the n octets of s from at on are all zero.
+pub fn is_zero(s: &[u8], at: usize, n: usize) -> bool
     ensures { λ r. ⌜ r ≡ allZero (octetsAt (now (s .entry)) at n) ⌝ }
 {
     let mut i = at;
@@ -182,19 +182,19 @@ fn is_zero_by_one(s: &[u8], at: usize, n: usize) -> bool
     true
 }
 
-// Whether the n octets of s from at on are all zero: eight at a time as long as so many lie inside, then one by one.
-pub fn is_zero(s: &[u8], at: usize, n: usize) -> bool
+// The same of a long run: eight octets at a time as long as so many lie inside, then one by one.
+pub fn is_zero_run(s: &[u8], at: usize, n: usize) -> bool
     ensures { λ r. ⌜ r ≡ allZero (octetsAt (now (s .entry)) at n) ⌝ }
 {
     if s.len() < 8 {
-        return is_zero_by_one(s, at, n);
+        return is_zero(s, at, n);
     }
     let last = s.len() - 8;
     let mut i = at;
     let mut left = n;
     while 8 <= left {
         if last < i {
-            return is_zero_by_one(s, i, left);
+            return is_zero(s, i, left);
         }
         if get_u64_le(s, i) != 0 {
             return false;
@@ -202,7 +202,7 @@ pub fn is_zero(s: &[u8], at: usize, n: usize) -> bool
         i += 8;
         left -= 8;
     }
-    is_zero_by_one(s, i, left)
+    is_zero(s, i, left)
 }
 
 // Whether the n octets of a from i on equal those of b from j on.

@@ -22,7 +22,7 @@ control-fits Active = lit< tt
 control-fits TerminalClosed = lit< tt
 control-fits Reclaiming = lit< tt
 
-control-of : (k : ℕ) (b₁ b₂ b₃ b₄ : Bool) → eqb k 0x4f45_0101 ≡ b₁ → eqb k 0x4f45_0102 ≡ b₂ → eqb k 0x4f45_0103 ≡ b₃ → eqb k 0x4f45_01ff ≡ b₄ →
+control-of : (k : ℕ) (b₁ b₂ b₃ b₄ : Bool) → eqb k (controlOf InitialClosed) ≡ b₁ → eqb k (controlOf Active) ≡ b₂ → eqb k (controlOf TerminalClosed) ≡ b₃ → eqb k (controlOf Reclaiming) ≡ b₄ →
     (b₁ || (b₂ || (b₃ || (b₄ || false)))) ≡ true → controlOf (cond b₂ Active (cond b₃ TerminalClosed (cond b₄ Reclaiming InitialClosed))) ≡ k
 control-of k b₁ true b₃ b₄ e₁ e₂ e₃ e₄ h = sym (eqb-true _ _ e₂)
 control-of k b₁ false true b₄ e₁ e₂ e₃ e₄ h = sym (eqb-true _ _ e₃)
@@ -32,4 +32,4 @@ control-of k false false false false e₁ e₂ e₃ e₄ h = absurd (true≢fals
 
 pub control-back : (k : ℕ) → stateListed k ≡ true → controlOf (stateFrom k) ≡ k
 unfolding stateListed
-control-back k h = control-of k (eqb k 0x4f45_0101) (eqb k 0x4f45_0102) (eqb k 0x4f45_0103) (eqb k 0x4f45_01ff) refl refl refl refl h
+control-back k h = control-of k (eqb k (controlOf InitialClosed)) (eqb k (controlOf Active)) (eqb k (controlOf TerminalClosed)) (eqb k (controlOf Reclaiming)) refl refl refl refl h

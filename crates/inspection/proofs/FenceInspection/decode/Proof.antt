@@ -97,8 +97,8 @@ rest5 a =
     holds (partFits (getD (numbers (at5 a)) 2 0) (drop 10 (numbers (at5 a)))) (fromTail (numbers (at5 a))) (rest4 (r .before .before))
     (sym (part r) ∙ not-false (r .read-part .result .taken) (a .if5 .left))
 
-ended : (a : the.Tie.After-is-zero) → a .is-zero .result ≡ fromTail (numbers (at5 (a .before)))
-ended a = a .is-zero .ensures ∙ sym (zero-number (octetsAt (bytes (at5 (a .before))) 88 40))
+ended : (a : the.Tie.After-is-zero-run) → a .is-zero-run .result ≡ fromTail (numbers (at5 (a .before)))
+ended a = a .is-zero-run .ensures ∙ sym (zero-number (octetsAt (bytes (at5 (a .before))) 88 40))
 
 -- ---- the answers
 
@@ -125,7 +125,7 @@ returns-5 c =
 returns-6 : the.Tie.Need-returns-6
 returns-6 c =
     let z = c .before .before in
-    refused (at5 (z .before)) _ _ (rest5 (z .before) ∙ sym (ended z) ∙ not-true (z .is-zero .result) (c .before .if6 .taken)) (c .refused6 .ensures)
+    refused (at5 (z .before)) _ _ (rest5 (z .before) ∙ sym (ended z) ∙ not-true (z .is-zero-run .result) (c .before .if6 .taken)) (c .refused6 .ensures)
 
 returns-7 : the.Tie.Need-returns-7
 returns-7 c =
@@ -137,7 +137,7 @@ returns-7 c =
     let entry : r .read-part .result .value ≡ partOf (le (octetsAt (bytes a) 6 1)) (fieldsAt (cookieValueCodec .layout) (bytes a) 48) =
     r .read-part .ensures .1 ∙ ap (λ f. partRead f (place h)) (flag h)
     ∙ given (bytes a) (a .if1 .left) (le (octetsAt (bytes a) 6 1)) (sym (ap (λ f. partTaken f (place h)) (flag h)) ∙ sym (r .read-part .ensures .0) ∙ took) in
-    decode-read (a .if1 .left) (built-done refl (rest5 passed5 ∙ sym (ended z) ∙ not-false (z .is-zero .result) (last .if6 .left))
+    decode-read (a .if1 .left) (built-done refl (rest5 passed5 ∙ sym (ended z) ∙ not-false (z .is-zero-run .result) (last .if6 .left))
     (refl, λ i. inspection (done-value (current d) (passed3 .if3 .left) i) (done-value (mutation m) (passed4 .if4 .left) i) (entry i)))
 
 pub decode-spec : {M : Type 1} → the.Statement.statement M

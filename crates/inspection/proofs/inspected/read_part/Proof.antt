@@ -7,7 +7,7 @@ use Rattle.inspection.proofs.inspected.read_part as the
 
 returns : the.Tie.Need-returns
 unfolding partTaken partRead
-returns c = let none = eq-eqb _ _ (c .before .if1 .taken) in (simp none (c .is-zero .ensures), simp none)
+returns c = let none = eq-eqb _ _ (c .before .if1 .taken) in (simp none (c .is-zero-run .ensures), simp none)
 
 returns-2 : the.Tie.Need-returns-2
 unfolding partTaken partRead
