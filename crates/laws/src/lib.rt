@@ -6,13 +6,14 @@
 // - Numbers, over the width. `octets/proofs/OctetsLaws.antt`: a number is back from its octets and octets from their number
 //   (`le-leBytes`, `leBytes-le`, `be-beBytes`, `beBytes-be`), and a number of n + m octets is two numbers side by side (`le-parts`,
 //   `be-parts`, `put-parts`, `put-parts-be`).
-// - Codecs, over the record. `octets/proofs/CodecLaws.antt`: accepted bytes encode to themselves and only sound records are given
-//   (`accepted`), sound records decode to themselves (`kept`), and an unsound record is given for no bytes (`never`). Each record
-//   shows what these ask of it, `Lawful`, in the `proofs` of `records`, `config` and `inspection`: `current-lawful`, `mutation-lawful`,
-//   `key-lawful`, `entry-lawful`, `cookie-value-lawful`, `config-lawful`, `inspection-lawful`.
+// - Codecs, over the record. Stated in `codec/specs/Promises.antt`: what a decoder accepts, an encoder writes again, and only sound records
+//   are given (`Accepted`); what an encoder wrote, a decoder takes (`Kept`); an unsound record is given for no bytes (`Never`); what a
+//   constructor gives is sound (`Constructed`). Each record has the four under its own name: `current-laws`, `mutation-laws`, `key-laws`,
+//   `entry-laws`, `cookie-value-laws`, `config-laws`, `inspection-laws`. Bytes decode exactly if no field is at fault (`told` in
+//   `codec/proofs/CodecLaws.antt`).
 // - Uniqueness. `Unique.antt` in each crate's `proofs`: the answer of every public function is its contract's alone
-//   (`FUNCTION-determined`, `RECORD-determined`), and no two cases of an enum have one number (`decision-injective`, `disposition-injective`,
-//   `slot-injective`).
+//   (`FUNCTION-determined`, `RECORD-FUNCTION-determined`), and no two cases of an enum have one number (`decision-injective`,
+//   `disposition-injective`, `slot-injective`).
 // - Reading a packet. Stated in `packet/specs/Promises.antt`: 0 to 4 headers are passed (`count-at-most-4` in `packet/proofs/Count.antt`),
 //   the sorting of the next-header value covers each of 256 values once (`sorted-once` in `Sorting.antt`), and a packet's answer depends
 //   on its named places alone (`isolation` in `Isolation.antt`). Stated in `packet/specs/Pinned.antt`: the places of some packets, A among
@@ -27,10 +28,11 @@
 //   so the same rule answers (`isolated-rule`) with the same answer (`isolated`). With `alike`, two calls that it is about, and the gate
 //   that drops all, which is isolated and refused (`drops-all-is-isolated`, `drops-all-is-refused` in `Examples.antt`).
 // - The listing. Stated in `bundle/specs/Promises.antt`: one line for each packet (`lines-then-last`, `one-line-each` in `EachLine.antt`),
-//   numbers read back (`decimals-read-back`), earlier lines stay (`earlier-calls-stay`, `earlier-lines-stay` in `Earlier.antt`),
+//   earlier lines stay (`earlier-calls-stay`, `earlier-lines-stay`, `earlier-listing-stays` in `Earlier.antt`),
 //   isolation (`isolated-line`, `isolated-sheet`, `isolated-listing` in `IsolationLaw.antt`), no listing is longer than the judge's
 //   output (`no-longer` in `Bound.antt`), 01's case and the edges of frames (`case-listed`, `edges-listed` in `Case.antt`).
-// - Images for C. `fields-back` and `bytes-back` in `export/proofs/RoundTrips.antt`: what decoding gives, encoding takes back, and the other
-//   way round, for every record.
+//   Stated in `text/specs/Promises.antt`: numbers read back (`decimals-read-back` in `text/proofs/Digits.antt`).
+// - Images for C. Stated in `export/specs/Promises.antt`: what decoding gives, encoding takes back to the same bytes, and the other way round
+//   (`seven-rounds` in `export/proofs/RoundTrips.antt`, a field for each record).
 // - Examples. `examples-hold` in `laws/proofs/Examples.antt`, stated in `laws/specs/Examples.antt`: the list that document 01 asks to be
 //   proved.
