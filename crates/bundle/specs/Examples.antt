@@ -1,6 +1,7 @@
 -- Document 01's case, and bundles at the edges of the frames, each list under one statement. Assumes nothing.
 use Rattle.octets.specs.Words.{ℕ, _≡_, List, [], _∷_, _++_, map, length, replicate}
 use Rattle.octets.specs.Octets.{leBytes, beBytes}
+use Rattle.packet.specs.Pinned.{A}
 use Rattle.text.specs.Text.{ascii}
 use Rattle.bundle.specs.Listing.{listing}
 
@@ -27,12 +28,7 @@ recorded = replicate 4 0 ++ leBytes 4 0x4f450102 ++ leBytes 8 9 ++ leBytes 8 3 +
 abbrev pub calling : ℕ → List ℕ
 calling time = leBytes 8 7 ++ (0 ∷ []) ++ leBytes 2 0 ++ replicate 16 0 ++ leBytes 8 9 ++ leBytes 8 time
 
--- packet A
-unfoldable pub A : List ℕ
-A =
-    0x45 ∷ 0x00 ∷ 0x00 ∷ 0x1c ∷ 0x00 ∷ 0x00 ∷ 0x00 ∷ 0x00 ∷ 0x40 ∷ 0x11 ∷ 0x00 ∷ 0x00 ∷ 0xc0 ∷ 0x00 ∷ 0x02 ∷ 0x0a ∷
-    0xc6 ∷ 0x33 ∷ 0x64 ∷ 0x01 ∷ 0x11 ∷ 0x94 ∷ 0x00 ∷ 0x35 ∷ 0x00 ∷ 0x08 ∷ 0x00 ∷ 0x00 ∷ []
-
+-- the frames in 01's order; packet A is that of the places
 unfoldable pub case : List ℕ
 case =
     framed 1 configured ++ (framed 2 published ++ (framed 3 recorded ++ (framed 4 (calling 999) ++ (framed 5 A ++

@@ -8,12 +8,14 @@ ghost use Rattle.codec.specs.Codec.{Made, Decoded, Encoded, sound, bytes};
 ghost use Rattle.config.specs.Config.{versionListed, capacityFits, config, configCodec};
 ghost use Rattle.config.specs.Inner.Steps.{frameFits};
 
+// The configuration, 40 bytes: the endpoint that is protected, and the root cgroup at which the hook has to be attached.
 pub struct FenceConfig {
     pub endpoint: ProtectedEndpoint,
     pub root_cgroup_id: RootCgroupId,
     pub capacity: u32,
 }
 
+// What a constructor or the decoder answers: 0 and the record, or a refusal's number and the all-zero record.
 pub struct ConfigAnswer {
     pub number: u32,
     pub value: FenceConfig,
@@ -72,13 +74,16 @@ fn address_at(s: &[u8]) -> [u8; 16]
 }
 
 impl FenceConfig {
+    // The length of the record's bytes.
     pub const LEN: usize = 40;
 
     // "OEF1", first octet first.
     pub const MARK: u32 = 0x4f45_4631;
 
+    // The version of the layout.
     pub const VERSION: u16 = 5;
 
+    // The capacity that version 5 has.
     pub const CAPACITY: u32 = 4096;
 
     // The record of an endpoint, a root cgroup and a capacity; 2 where it is unsound.

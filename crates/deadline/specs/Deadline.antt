@@ -17,7 +17,7 @@ decisionNumber Apply = 3
 -- on observed o, prior p, requested r, in this order: o >= p; r <= o or r - o above the ceiling; r < p; else Apply
 unfoldable pub refreshDecision : ℕ → ℕ → ℕ → ℕ
 refreshDecision o p r =
-    cond (leb p o) 0
-    (cond (leb r o || ltb ceiling (r - o)) 1
-    (cond (ltb r p) 2
-    3))
+    cond (leb p o) (decisionNumber PriorExpired)
+    (cond (leb r o || ltb ceiling (r - o)) (decisionNumber RequestedDeadlineInvalid)
+    (cond (ltb r p) (decisionNumber DeadlineRegressed)
+    (decisionNumber Apply)))

@@ -6,6 +6,7 @@ ghost use Rattle.deadline.specs.Deadline.{decisionNumber, refreshDecisio
 // The ceiling on one deadline's lifetime, in nanoseconds of the boot clock.
 pub const EGRESS_FENCE_MAX_GATE_LIFETIME_NS: u64 = 300_000_000_000;
 
+// What becomes of a requested deadline.
 pub enum RefreshDeadlineDecision {
     // The prior deadline had passed when the clock was observed.
     PriorExpired,

@@ -3,9 +3,10 @@ ghost use Rattle.octets.specs.Words.{_≡_, _++_, replicate};
 ghost use Rattle.octets.specs.Octets.{octetsAt, allZero};
 ghost use Rattle.endpoint.specs.Endpoint.{usableIpv4, usableIpv6, linkLocal, ipv4Mapped, soundEndpoint, made, ipv4Of, ipv6Of, matchesIpv4, matchesIpv6};
 
-// Addresses in network order.
+// An IPv4 address in network order.
 pub type Ipv4Address = [u8; 4];
 
+// An IPv6 address in network order.
 pub type Ipv6Address = [u8; 16];
 
 // The Rust's enum of two cases, each with an array, as one struct: `family` is 4 or 6, and an IPv4 address stands in the first four
@@ -99,8 +100,10 @@ fn padded(address: Ipv4Address) -> [u8; 16]
 }
 
 impl ProtectedEndpoint {
+    // The family of an IPv4 endpoint.
     pub const IPV4: u8 = 4;
 
+    // The family of an IPv6 endpoint.
     pub const IPV6: u8 = 6;
 
     // Whether the value is one that a constructor gives.
@@ -147,6 +150,7 @@ impl ProtectedEndpoint {
         }
     }
 
+    // An IPv4 endpoint, or 2 where its address or port may not be protected.
     pub fn ipv4(address: Ipv4Address, port: u16) -> EndpointAnswer
         ensures { λ r. ⌜ r ≡ made (ipv4Of address port) ⌝ }
     {
@@ -158,6 +162,7 @@ impl ProtectedEndpoint {
         }.checked()
     }
 
+    // An IPv6 endpoint, or 2 where its address or port may not be protected.
     pub fn ipv6(address: Ipv6Address, port: u16) -> EndpointAnswer
         ensures { λ r. ⌜ r ≡ made (ipv6Of address port) ⌝ }
     {
@@ -168,6 +173,7 @@ impl ProtectedEndpoint {
         }.checked()
     }
 
+    // The UDP port.
     pub fn port(self) -> u16
         ensures { λ r. ⌜ r ≡ self .port ⌝ }
     {

@@ -21,6 +21,7 @@ ghost use Rattle.gate.specs.Inner.Steps.{sourceOf, soughtRecord, from, n
 // The longest table: 4,096 cookie values.
 pub const MAX_TABLE_LEN: usize = 163_840;
 
+// An address of either family, in network order.
 pub type SocketAddress = [u8; 16];
 
 // The socket that a packet leaves from. An IPv4 address stands in the first four bytes of `address`.
@@ -30,6 +31,7 @@ pub struct Socket {
     pub port: u16,
 }
 
+// The gate's answer for a packet.
 pub struct GateAnswer {
     pub verdict: FenceVerdict,
     // The IPv6 extension headers passed; 0 where the packet was not read.

@@ -12,6 +12,7 @@ ghost use Rattle.codec.specs.Head.{headNumbers};
 ghost use Rattle.inspection.specs.Inspected.{partNumbers};
 ghost use Rattle.inspection.specs.Inspection.{inspection, frontTests, inspectionCodec};
 
+// An inspection, 128 bytes: the current record, the mutation authority, and the entry that was looked up, if there is one.
 pub struct FenceInspection {
     pub current: CurrentFenceToken,
     pub mutation: FenceMutationAuthority,
@@ -51,11 +52,13 @@ fn head_is_right(head: Head) -> bool
 }
 
 impl FenceInspection {
+    // The length of the record's bytes.
     pub const LEN: usize = 128;
 
     // "OEI1", first octet first.
     pub const MARK: u32 = 0x4f45_4931;
 
+    // The version of the layout.
     pub const VERSION: u16 = 5;
 
     // The record of its three parts; 2 where one of them is unsound.

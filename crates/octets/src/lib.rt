@@ -5,12 +5,14 @@
 ghost use Rattle.octets.specs.Words.{_≡_};
 ghost use Rattle.octets.specs.Octets.{octetsAt, le, be, put, leBytes, beBytes, allZero, sameOctets};
 
+// The octet at a place.
 pub fn get_u8(s: &[u8], at: usize) -> u8
     ensures { λ r. ⌜ r ≡ le (octetsAt (now (s .entry)) at 1) ⌝ }
 {
     if at < s.len() { s[at] } else { 0 }
 }
 
+// Puts an octet at a place.
 pub fn put_u8(d: &mut [u8], at: usize, v: u8)
     ensures { λ r. ⌜ now (d .exit) ≡ put (now (d .entry)) at (leBytes 1 v) ⌝ }
 {
@@ -21,6 +23,7 @@ pub fn put_u8(d: &mut [u8], at: usize, v: u8)
 
 // ---- least significant octet first. A number of twice the width is its two halves.
 
+// The number of 16 bits at a place, least significant octet first.
 pub fn get_u16_le(s: &[u8], at: usize) -> u16
     ensures { λ r. ⌜ r ≡ le (octetsAt (now (s .entry)) at 2) ⌝ }
 {
@@ -32,6 +35,7 @@ pub fn get_u16_le(s: &[u8], at: usize) -> u16
     (low as u16) + (high as u16) * 256
 }
 
+// Puts a number of 16 bits at a place, least significant octet first.
 pub fn put_u16_le(d: &mut [u8], at: usize, v: u16)
     ensures { λ r. ⌜ now (d .exit) ≡ put (now (d .entry)) at (leBytes 2 v) ⌝ }
 {
@@ -44,6 +48,7 @@ pub fn put_u16_le(d: &mut [u8], at: usize, v: u16)
     put_u8(d, at + 1, high);
 }
 
+// The number of 32 bits at a place, least significant octet first.
 pub fn get_u32_le(s: &[u8], at: usize) -> u32
     ensures { λ r. ⌜ r ≡ le (octetsAt (now (s .entry)) at 4) ⌝ }
 {
@@ -55,6 +60,7 @@ pub fn get_u32_le(s: &[u8], at: usize) -> u32
     (low as u32) + (high as u32) * 65536
 }
 
+// Puts a number of 32 bits at a place, least significant octet first.
 pub fn put_u32_le(d: &mut [u8], at: usize, v: u32)
     ensures { λ r. ⌜ now (d .exit) ≡ put (now (d .entry)) at (leBytes 4 v) ⌝ }
 {
@@ -67,6 +73,7 @@ pub fn put_u32_le(d: &mut [u8], at: usize, v: u32)
     put_u16_le(d, at + 2, high);
 }
 
+// The number of 64 bits at a place, least significant octet first.
 pub fn get_u64_le(s: &[u8], at: usize) -> u64
     ensures { λ r. ⌜ r ≡ le (octetsAt (now (s .entry)) at 8) ⌝ }
 {
@@ -78,6 +85,7 @@ pub fn get_u64_le(s: &[u8], at: usize) -> u64
     (low as u64) + (high as u64) * 4294967296
 }
 
+// Puts a number of 64 bits at a place, least significant octet first.
 pub fn put_u64_le(d: &mut [u8], at: usize, v: u64)
     ensures { λ r. ⌜ now (d .exit) ≡ put (now (d .entry)) at (leBytes 8 v) ⌝ }
 {
@@ -92,6 +100,7 @@ pub fn put_u64_le(d: &mut [u8], at: usize, v: u64)
 
 // ---- most significant octet first. A number of twice the width is its two halves.
 
+// The number of 16 bits at a place, most significant octet first.
 pub fn get_u16_be(s: &[u8], at: usize) -> u16
     ensures { λ r. ⌜ r ≡ be (octetsAt (now (s .entry)) at 2) ⌝ }
 {
@@ -103,6 +112,7 @@ pub fn get_u16_be(s: &[u8], at: usize) -> u16
     (low as u16) + (high as u16) * 256
 }
 
+// Puts a number of 16 bits at a place, most significant octet first.
 pub fn put_u16_be(d: &mut [u8], at: usize, v: u16)
     ensures { λ r. ⌜ now (d .exit) ≡ put (now (d .entry)) at (beBytes 2 v) ⌝ }
 {
@@ -115,6 +125,7 @@ pub fn put_u16_be(d: &mut [u8], at: usize, v: u16)
     put_u8(d, at + 1, low);
 }
 
+// The number of 32 bits at a place, most significant octet first.
 pub fn get_u32_be(s: &[u8], at: usize) -> u32
     ensures { λ r. ⌜ r ≡ be (octetsAt (now (s .entry)) at 4) ⌝ }
 {
@@ -126,6 +137,7 @@ pub fn get_u32_be(s: &[u8], at: usize) -> u32
     (low as u32) + (high as u32) * 65536
 }
 
+// Puts a number of 32 bits at a place, most significant octet first.
 pub fn put_u32_be(d: &mut [u8], at: usize, v: u32)
     ensures { λ r. ⌜ now (d .exit) ≡ put (now (d .entry)) at (beBytes 4 v) ⌝ }
 {
@@ -138,6 +150,7 @@ pub fn put_u32_be(d: &mut [u8], at: usize, v: u32)
     put_u16_be(d, at + 2, low);
 }
 
+// The number of 64 bits at a place, most significant octet first.
 pub fn get_u64_be(s: &[u8], at: usize) -> u64
     ensures { λ r. ⌜ r ≡ be (octetsAt (now (s .entry)) at 8) ⌝ }
 {
@@ -149,6 +162,7 @@ pub fn get_u64_be(s: &[u8], at: usize) -> u64
     (low as u64) + (high as u64) * 4294967296
 }
 
+// Puts a number of 64 bits at a place, most significant octet first.
 pub fn put_u64_be(d: &mut [u8], at: usize, v: u64)
     ensures { λ r. ⌜ now (d .exit) ≡ put (now (d .entry)) at (beBytes 8 v) ⌝ }
 {

@@ -11,6 +11,7 @@ ghost use Rattle.packet.specs.Answers.{dispositionOf, dispositionNumber,
 ghost use Rattle.packet.specs.Inner.Steps.{classNumber, outcomeOf, Walked};
 ghost use Rattle.packet.specs.Reading.{unrelated, indeterminate, stop, sortOf, udpOf, passOf, countedOf, fragmentOf, stepOf, walkOf, ipv4Of, ipv6Of, known, classifyOf};
 
+// What a packet proves of its source.
 pub enum PacketEndpointDisposition {
     // The packet is proven to use the protected UDP source.
     Protected,

@@ -9,6 +9,7 @@ use units::SocketCookie;
 ghost use Rattle.records.specs.Words.{_≡_, [], _∷_, put, asking, ok, bytes, Built, Decoded, Encoded, sound};
 ghost use Rattle.records.specs.CookieValue.{cookieValue, cookieValueCodec, keyOf, entryOf, agreeing, pairFields};
 
+// State, cookie, token, deadline and epoch of a registered socket.
 pub struct FenceCookieValue {
     pub state: FenceEntryState,
     pub socket_cookie: SocketCookie,
@@ -17,6 +18,7 @@ pub struct FenceCookieValue {
     pub control_epoch: ControlEpoch,
 }
 
+// What a constructor or the decoder answers: 0 and the record, or a refusal's number and the all-zero record.
 pub struct CookieValueAnswer {
     pub number: u32,
     pub value: FenceCookieValue,
@@ -107,6 +109,7 @@ fn agree(key: FenceCookieKey, entry: FenceEntry) -> bool
 }
 
 impl FenceCookieValue {
+    // The length of the record's bytes.
     pub const LEN: usize = 40;
 
     // A key and an entry of the same token.
@@ -124,6 +127,7 @@ impl FenceCookieValue {
         from_fields(0, state.control(), cookie, token, deadline, epoch)
     }
 
+    // The key that the record stands under.
     pub fn key(self) -> FenceCookieKey
         ensures { λ r. ⌜ r ≡ keyOf self ⌝ }
     {
@@ -135,6 +139,7 @@ impl FenceCookieValue {
         }
     }
 
+    // The entry of the socket.
     pub fn entry(self) -> FenceEntry
         ensures { λ r. ⌜ r ≡ entryOf self ⌝ }
     {
@@ -150,6 +155,7 @@ impl FenceCookieValue {
         }
     }
 
+    // Whether the decoder gives this record for some bytes.
     pub fn is_sound(self) -> bool
         ensures { λ r. ⌜ r ≡ sound cookieValueCodec self ⌝ }
     {
@@ -161,6 +167,7 @@ impl FenceCookieValue {
         rule(0, state.control(), cookie, token, deadline, epoch)
     }
 
+    // The record of its bytes: 1 for another length, 2 where they break its rule.
     pub fn decode(s: &[u8]) -> CookieValueAnswer
         ensures { λ r. ⌜ Decoded cookieValueCodec (now (s .entry)) (r .number) (r .value) ⌝ }
     {
@@ -176,6 +183,7 @@ impl FenceCookieValue {
         from_fields(zeros, control, cookie, token, deadline, epoch)
     }
 
+    // Puts the record's bytes at the start of `out`: 3 where it is unsound, 4 where there is too little room, and then nothing is put.
     pub fn encode(self, out: &mut [u8]) -> u32
         ensures { λ r. ⌜ Encoded cookieValueCodec self (now (out .entry)) r (now (out .exit)) ⌝ }
     {

@@ -4,12 +4,14 @@ use units::SocketCookie;
 ghost use Rattle.records.specs.Words.{_≡_, not, [], _∷_, eqb, put, asking, ok, bytes, Built, Decoded, Encoded, sound};
 ghost use Rattle.records.specs.Current.{current, openControl, retiredControl, currentControl, currentCodec, lifecycleOpen, retirementClosed};
 
+// Token, registered cookie, and whether the token is retired.
 pub struct CurrentFenceToken {
     pub durable_fence_token: DurableFenceToken,
     pub registered_socket_cookie: SocketCookie,
     pub retirement_closed: bool,
 }
 
+// What a constructor or the decoder answers: 0 and the record, or a refusal's number and the all-zero record.
 pub struct CurrentAnswer {
     pub number: u32,
     pub value: CurrentFenceToken,
@@ -79,10 +81,13 @@ fn from_fields(
 }
 
 impl CurrentFenceToken {
+    // The length of the record's bytes.
     pub const LEN: usize = 24;
 
+    // The control word of a token that is open, with a registered socket or without.
     pub const LIFECYCLE_OPEN_CONTROL: u32 = 0x4f45_0201;
 
+    // The control word of a token that is retired.
     pub const RETIREMENT_CLOSED_CONTROL: u32 = 0x4f45_0202;
 
     // Before the first token is published.
@@ -92,6 +97,7 @@ impl CurrentFenceToken {
         from_fields(0, 0, DurableFenceToken(0), SocketCookie(0))
     }
 
+    // An open token without a socket, or 2 where it is not odd.
     pub fn lifecycle_open(durable_fence_token: DurableFenceToken) -> CurrentAnswer
         ensures { λ r. ⌜ Built currentCodec (0 ∷ openControl ∷ «durable_fence_token» .0 ∷ 0 ∷ []) (r .number) (r .value) ⌝ }
     {
@@ -103,6 +109,7 @@ impl CurrentFenceToken {
         )
     }
 
+    // A retired token, or 2 where it is 0 or odd.
     pub fn retirement_closed(durable_fence_token: DurableFenceToken) -> CurrentAnswer
         ensures { λ r. ⌜ Built currentCodec (0 ∷ retiredControl ∷ «durable_fence_token» .0 ∷ 0 ∷ []) (r .number) (r .value) ⌝ }
     {
@@ -133,6 +140,7 @@ impl CurrentFenceToken {
         )
     }
 
+    // The durable token in force, or 0 before the first.
     pub fn durable_fence_token(self) -> DurableFenceToken
         ensures { λ r. ⌜ r ≡ self .«durable_fence_token» ⌝ }
     {
@@ -160,6 +168,7 @@ impl CurrentFenceToken {
         (self.durable_fence_token.0 != 0) & self.retirement_closed
     }
 
+    // The word that stands for the record's state in its bytes.
     pub fn control(self) -> u32
         ensures { λ r. ⌜ r ≡ currentControl self ⌝ }
     {
@@ -173,6 +182,7 @@ impl CurrentFenceToken {
         CurrentFenceToken::LIFECYCLE_OPEN_CONTROL
     }
 
+    // Whether the decoder gives this record for some bytes.
     pub fn is_sound(self) -> bool
         ensures { λ r. ⌜ r ≡ sound currentCodec self ⌝ }
     {
@@ -181,6 +191,7 @@ impl CurrentFenceToken {
         rule(0, self.control(), token, cookie)
     }
 
+    // The record of its bytes: 1 for another length, 2 where they break its rule.
     pub fn decode(s: &[u8]) -> CurrentAnswer
         ensures { λ r. ⌜ Decoded currentCodec (now (s .entry)) (r .number) (r .value) ⌝ }
     {
@@ -194,6 +205,7 @@ impl CurrentFenceToken {
         from_fields(zeros, control, token, cookie)
     }
 
+    // Puts the record's bytes at the start of `out`: 3 where it is unsound, 4 where there is too little room, and then nothing is put.
     pub fn encode(self, out: &mut [u8]) -> u32
         ensures { λ r. ⌜ Encoded currentCodec self (now (out .entry)) r (now (out .exit)) ⌝ }
     {

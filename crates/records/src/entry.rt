@@ -6,6 +6,7 @@ ghost use Rattle.records.specs.Words.{_≡_, _&&_, [], _∷_, put, ok, b
 ghost use Rattle.records.specs.Entry.{controlOf, stateFrom, stateListed, oddToken, deadlineFits, epochFits, entry, entryCodec, closed, terminal, reclaiming};
 ghost use Rattle.records.specs.declared.entry.FenceEntryState.the-variants.{InitialClosed, Active, TerminalClosed, Reclaiming};
 
+// The state of an entry.
 pub enum FenceEntryState {
     // Registered, and not yet opened.
     InitialClosed,
@@ -17,6 +18,7 @@ pub enum FenceEntryState {
     Reclaiming,
 }
 
+// State, token, deadline and epoch of a registered socket.
 pub struct FenceEntry {
     pub state: FenceEntryState,
     pub durable_fence_token: DurableFenceToken,
@@ -24,6 +26,7 @@ pub struct FenceEntry {
     pub control_epoch: ControlEpoch,
 }
 
+// What a constructor or the decoder answers: 0 and the record, or a refusal's number and the all-zero record.
 pub struct EntryAnswer {
     pub number: u32,
     pub value: FenceEntry,
@@ -126,10 +129,13 @@ impl FenceEntryState {
     // The control words, one for each state.
     pub const INITIAL_CLOSED: u32 = 0x4f45_0101;
 
+    // Open until its deadline.
     pub const ACTIVE: u32 = 0x4f45_0102;
 
+    // Closed for good.
     pub const TERMINAL_CLOSED: u32 = 0x4f45_0103;
 
+    // Closed, and about to be deleted.
     pub const RECLAIMING: u32 = 0x4f45_01ff;
 
     // The word that stands for the state in a record.
@@ -162,11 +168,13 @@ impl FenceEntryState {
 }
 
 impl FenceEntry {
+    // The length of the record's bytes.
     pub const LEN: usize = 32;
 
     // The epoch of a fresh registration.
     pub const INITIAL_EPOCH: u64 = 1;
 
+    // A fresh registration, or 2 where the token is not odd.
     pub fn initial_closed(durable_fence_token: DurableFenceToken) -> EntryAnswer
         ensures { λ r. ⌜ Built entryCodec (0 ∷ controlOf InitialClosed ∷ «durable_fence_token» .0 ∷ 0 ∷ 1 ∷ []) (r .number) (r .value) ⌝ }
     {
@@ -179,6 +187,7 @@ impl FenceEntry {
         )
     }
 
+    // An open entry, or 2 where the token is not odd, or deadline or epoch is 0.
     pub fn active(
         durable_fence_token: DurableFenceToken,
         deadline_boot_ns: BootNs,
@@ -195,6 +204,7 @@ impl FenceEntry {
         )
     }
 
+    // An entry closed for good, or 2 where the token is not odd or the epoch is 0.
     pub fn terminal_closed(
         durable_fence_token: DurableFenceToken,
         control_epoch: ControlEpoch,
@@ -210,6 +220,7 @@ impl FenceEntry {
         )
     }
 
+    // An entry about to be deleted, or 2 where the token is not odd or the epoch is 0.
     pub fn reclaiming(
         durable_fence_token: DurableFenceToken,
         control_epoch: ControlEpoch,
@@ -225,30 +236,35 @@ impl FenceEntry {
         )
     }
 
+    // The state.
     pub fn state(self) -> FenceEntryState
         ensures { λ r. ⌜ controlOf r ≡ controlOf (self .state) ⌝ }
     {
         self.state
     }
 
+    // The durable token that the record stands under.
     pub fn durable_fence_token(self) -> DurableFenceToken
         ensures { λ r. ⌜ r ≡ self .«durable_fence_token» ⌝ }
     {
         self.durable_fence_token
     }
 
+    // The deadline; of a sound entry that is not Active, 0.
     pub fn deadline_boot_ns(self) -> BootNs
         ensures { λ r. ⌜ r ≡ self .«deadline_boot_ns» ⌝ }
     {
         self.deadline_boot_ns
     }
 
+    // The epoch of the last change.
     pub fn control_epoch(self) -> ControlEpoch
         ensures { λ r. ⌜ r ≡ self .«control_epoch» ⌝ }
     {
         self.control_epoch
     }
 
+    // Whether the state is any but Active.
     pub fn is_closed(self) -> bool
         ensures { λ r. ⌜ r ≡ closed (self .state) ⌝ }
     {
@@ -261,6 +277,7 @@ impl FenceEntry {
         }
     }
 
+    // Whether the entry is closed for good.
     pub fn is_terminal(self) -> bool
         ensures { λ r. ⌜ r ≡ terminal (self .state) ⌝ }
     {
@@ -273,6 +290,7 @@ impl FenceEntry {
         }
     }
 
+    // Whether the entry is about to be deleted.
     pub fn is_reclaiming(self) -> bool
         ensures { λ r. ⌜ r ≡ reclaiming (self .state) ⌝ }
     {
@@ -285,6 +303,7 @@ impl FenceEntry {
         }
     }
 
+    // Whether the decoder gives this record for some bytes.
     pub fn is_sound(self) -> bool
         ensures { λ r. ⌜ r ≡ sound entryCodec self ⌝ }
     {
@@ -295,6 +314,7 @@ impl FenceEntry {
         rule(0, state.control(), token, deadline, epoch)
     }
 
+    // The record of its bytes: 1 for another length, 2 where they break its rule.
     pub fn decode(s: &[u8]) -> EntryAnswer
         ensures { λ r. ⌜ Decoded entryCodec (now (s .entry)) (r .number) (r .value) ⌝ }
     {
@@ -309,6 +329,7 @@ impl FenceEntry {
         from_fields(zeros, control, token, deadline, epoch)
     }
 
+    // Puts the record's bytes at the start of `out`: 3 where it is unsound, 4 where there is too little room, and then nothing is put.
     pub fn encode(self, out: &mut [u8]) -> u32
         ensures { λ r. ⌜ Encoded entryCodec self (now (out .entry)) r (now (out .exit)) ⌝ }
     {

@@ -4,17 +4,20 @@ use units::SocketCookie;
 ghost use Rattle.records.specs.Words.{_≡_, [], _∷_, put, bytes, Built, Decoded, Encoded, sound};
 ghost use Rattle.records.specs.Key.{keyCodec};
 
+// The cookie and the token of a registered socket.
 pub struct FenceCookieKey {
     pub socket_cookie: SocketCookie,
     pub durable_fence_token: DurableFenceToken,
 }
 
+// What a constructor or the decoder answers: 0 and the record, or a refusal's number and the all-zero record.
 pub struct KeyAnswer {
     pub number: u32,
     pub value: FenceCookieKey,
 }
 
 impl FenceCookieKey {
+    // The length of the record's bytes.
     pub const LEN: usize = 16;
 
     const ZERO: FenceCookieKey = FenceCookieKey {
@@ -22,6 +25,7 @@ impl FenceCookieKey {
         durable_fence_token: DurableFenceToken(0),
     };
 
+    // A key, or 2 where one of the two is 0.
     pub fn new(socket_cookie: SocketCookie, durable_fence_token: DurableFenceToken) -> KeyAnswer
         ensures { λ r. ⌜ Built keyCodec («socket_cookie» .0 ∷ «durable_fence_token» .0 ∷ []) (r .number) (r .value) ⌝ }
     {
@@ -36,24 +40,28 @@ impl FenceCookieKey {
         KeyAnswer { number: 2, value }
     }
 
+    // The cookie of the socket.
     pub fn socket_cookie(self) -> SocketCookie
         ensures { λ r. ⌜ r ≡ self .«socket_cookie» ⌝ }
     {
         self.socket_cookie
     }
 
+    // The durable token that the record stands under.
     pub fn durable_fence_token(self) -> DurableFenceToken
         ensures { λ r. ⌜ r ≡ self .«durable_fence_token» ⌝ }
     {
         self.durable_fence_token
     }
 
+    // Whether the decoder gives this record for some bytes.
     pub fn is_sound(self) -> bool
         ensures { λ r. ⌜ r ≡ sound keyCodec self ⌝ }
     {
         (self.socket_cookie.0 != 0) & (self.durable_fence_token.0 != 0)
     }
 
+    // The record of its bytes: 1 for another length, 2 where they break its rule.
     pub fn decode(s: &[u8]) -> KeyAnswer
         ensures { λ r. ⌜ Decoded keyCodec (now (s .entry)) (r .number) (r .value) ⌝ }
     {
@@ -66,6 +74,7 @@ impl FenceCookieKey {
         FenceCookieKey::new(SocketCookie(cookie), DurableFenceToken(token))
     }
 
+    // Puts the record's bytes at the start of `out`: 3 where it is unsound, 4 where there is too little room, and then nothing is put.
     pub fn encode(self, out: &mut [u8]) -> u32
         ensures { λ r. ⌜ Encoded keyCodec self (now (out .entry)) r (now (out .exit)) ⌝ }
     {

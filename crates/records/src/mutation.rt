@@ -2,17 +2,20 @@
 ghost use Rattle.records.specs.Words.{_≡_, [], _∷_, put, bytes, Built, Decoded, Encoded, sound};
 ghost use Rattle.records.specs.Mutation.{mutationCodec};
 
+// Generation and claim; a claim of 0 is none.
 pub struct FenceMutationAuthority {
     pub generation: u64,
     pub in_flight_claim: u64,
 }
 
+// What a constructor or the decoder answers: 0 and the record, or a refusal's number and the all-zero record.
 pub struct MutationAnswer {
     pub number: u32,
     pub value: FenceMutationAuthority,
 }
 
 impl FenceMutationAuthority {
+    // The length of the record's bytes.
     pub const LEN: usize = 16;
 
     const ZERO: FenceMutationAuthority = FenceMutationAuthority {
@@ -27,6 +30,7 @@ impl FenceMutationAuthority {
         FenceMutationAuthority::new(0, 0)
     }
 
+    // A generation and the claim in flight, or 2 where the claim is neither 0 nor the next generation.
     pub fn new(generation: u64, in_flight_claim: u64) -> MutationAnswer
         ensures { λ r. ⌜ Built mutationCodec (generation ∷ «in_flight_claim» ∷ []) (r .number) (r .value) ⌝ }
     {
@@ -41,12 +45,14 @@ impl FenceMutationAuthority {
         MutationAnswer { number: 2, value }
     }
 
+    // The last completed generation.
     pub fn generation(self) -> u64
         ensures { λ r. ⌜ r ≡ self .generation ⌝ }
     {
         self.generation
     }
 
+    // The claim in flight, or 0.
     pub fn in_flight_claim(self) -> u64
         ensures { λ r. ⌜ r ≡ self .«in_flight_claim» ⌝ }
     {
@@ -62,6 +68,7 @@ impl FenceMutationAuthority {
         claim == 0 || (generation < 0xffff_ffff_ffff_ffff && claim == generation + 1)
     }
 
+    // The record of its bytes: 1 for another length, 2 where they break its rule.
     pub fn decode(s: &[u8]) -> MutationAnswer
         ensures { λ r. ⌜ Decoded mutationCodec (now (s .entry)) (r .number) (r .value) ⌝ }
     {
@@ -74,6 +81,7 @@ impl FenceMutationAuthority {
         FenceMutationAuthority::new(generation, claim)
     }
 
+    // Puts the record's bytes at the start of `out`: 3 where it is unsound, 4 where there is too little room, and then nothing is put.
     pub fn encode(self, out: &mut [u8]) -> u32
         ensures { λ r. ⌜ Encoded mutationCodec self (now (out .entry)) r (now (out .exit)) ⌝ }
     {

@@ -11,22 +11,31 @@ ghost use Rattle.verdict.specs.Verdict.{slotOf, slotNumbers, slotNumber,
 // The slots of the counter map, which has eight; slot 1 is reserved.
 pub const COUNTER_ALLOWED: u32 = 0;
 
+// Never counted in.
 pub const COUNTER_RESERVED: u32 = 1;
 
+// DropCookieZero.
 pub const COUNTER_COOKIE_ZERO: u32 = 2;
 
+// DropMissing.
 pub const COUNTER_COOKIE_MISSING: u32 = 3;
 
+// DropClosed.
 pub const COUNTER_CLOSED: u32 = 4;
 
+// DropExpired.
 pub const COUNTER_EXPIRED: u32 = 5;
 
+// DropMalformed.
 pub const COUNTER_MALFORMED: u32 = 6;
 
+// DropStaleToken.
 pub const COUNTER_STALE_TOKEN: u32 = 7;
 
+// How many slots there are.
 pub const EGRESS_FENCE_COUNTER_SLOTS: u32 = 8;
 
+// What becomes of a packet.
 pub enum FenceVerdict {
     // The packet is provably none of the protected endpoint's.
     PassUnrelated,
@@ -53,6 +62,7 @@ pub enum CounterSlot {
 }
 
 impl FenceVerdict {
+    // The slot of the counter map in which the verdict is counted.
     pub fn counter_slot(self) -> CounterSlot
         ensures { λ r. ⌜ slotNumbers r ≡ slotNumbers (slotOf self) ⌝ }
     {
@@ -119,6 +129,7 @@ pub struct FenceAuthoritySnapshot {
 }
 
 impl PacketFenceContext {
+    // The context of its parts.
     pub fn new(
         attachment_identity_valid: bool,
         socket_endpoint_matches: bool,
@@ -137,6 +148,7 @@ impl PacketFenceContext {
 }
 
 impl FenceAuthoritySnapshot {
+    // The snapshot of its parts.
     pub fn new(
         entry: RegisteredEntry,
         current_durable_fence_token: DurableFenceToken,
