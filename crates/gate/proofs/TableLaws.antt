@@ -7,6 +7,7 @@ use lib.ListN.{length-take, length-drop}
 use lib.Seq.{drop-drop}
 use denote.Ref.{RefT, ptr, now}
 use Rattle.gate.specs.Table.{recordsIn, records, isUnder, under, firstOf, placeFrom, after, FirstUnder}
+use Rattle.gate.specs.Inner.Steps.{FirstFrom}
 
 records-none : (s : List ℕ) → length s < 40 → records s ≡ []
 unfolding records recordsIn
@@ -39,13 +40,21 @@ module _ (k t : ℕ) (s : List ℕ) (at : ℕ) where
   unfolding under firstOf placeFrom
   found-none h = rw (records-none (drop at s) (rw length-drop (omega arith)))
 
--- a part of a table that has the bytes that are found, and lies where they do, is the one promised
-pub found-is : {k t : ℕ} {table part : RefT (List ℕ)} {b : List ℕ} {n : ℕ} → searched 0 k t (records (now table)) ≡ (b, n) →
-    now part ≡ b → ptr part ≡ (ptr table .0, n + ptr table .1) → FirstUnder k t table part
-found-is {table = table} {n = n} e p q = record {
-  bytes = p ∙ sym (ap (λ x. x .0) e);
-  place = q ∙ (λ i. (ptr table .0, add-comm n (ptr table .1) i)) ∙ ap (λ x. after table (x .1)) (sym e);
-}
+-- a part of a table that has the bytes that are found from a place on, and lies where they do, is the one promised
+module _ {at k t : ℕ} {table part : RefT (List ℕ)} where
+  pub found-is : {b : List ℕ} {n : ℕ} → searched at k t (records (drop at (now table))) ≡ (b, n) →
+      now part ≡ b → ptr part ≡ (ptr table .0, n + ptr table .1) → FirstFrom at k t table part
+  found-is {n = n} e p q = record {
+    bytes = p ∙ sym (ap (λ x. x .0) e);
+    place = q ∙ (λ i. (ptr table .0, add-comm n (ptr table .1) i)) ∙ ap (λ x. after table (x .1)) (sym e);
+  }
+
+  -- and the first of all, where none before that place is under the key
+  pub found-first : searched 0 k t (records (now table)) ≡ searched at k t (records (drop at (now table))) → FirstFrom at k t table part → FirstUnder k t table part
+  found-first e f = record {
+    bytes = f .bytes ∙ sym (ap (λ x. x .0) e);
+    place = f .place ∙ ap (λ x. after table (x .1)) (sym e);
+  }
 
 -- ---- what is found
 

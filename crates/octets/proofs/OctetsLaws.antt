@@ -133,6 +133,14 @@ unfolding put
 length-put d at [] = refl
 length-put d at (b ∷ bs) = length-put (set d at b) (at + 1) bs ∙ length-set d at b
 
+-- of some octets the first is put, and then the rest
+pub put-first : (d : List ℕ) (at n v : ℕ) → (n ≡ 0 → ⊥) → put d at (leBytes n v) ≡ put (set d at (v % 256)) (at + 1) (leBytes (n - 1) (v / 256))
+unfolding put leBytes
+put-first d at zero v h = absurd (h refl)
+put-first d at (suc n) v h =
+    let e : n ≡ suc n - 1 = omega arith in
+    ap (λ (k : ℕ). put (set d at (v % 256)) (at + 1) (leBytes k (v / 256))) e
+
 -- one law for the writers: a number of n + m bytes is put as one of n and one of m
 pub put-parts : (d : List ℕ) (at n m v : ℕ) → put d at (leBytes (n + m) v) ≡ put (put d at (leBytes n (v % 256 ^ n))) (at + n) (leBytes m (v / 256 ^ n))
 put-parts d at n m v = rw (leBytes-append, put-append, length-leBytes, leBytes-mod)
@@ -229,7 +237,26 @@ octets-first s at (suc n) h =
     let e : n ≡ suc n - 1 = omega arith in
     ap (λ (k : ℕ). getD s at 0 ∷ octetsAt s (at + 1) k) e
 
--- so of some octets the first is asked, and then the rest
+-- so of some octets the first is read, and then the rest
+pub le-first : (s : List ℕ) (at n : ℕ) → (n ≡ 0 → ⊥) → le (octetsAt s at n) ≡ le (octetsAt s at 1) + 256 * le (octetsAt s (at + 1) (n - 1))
+le-first s at n h =
+    let e : n ≡ 1 + (n - 1) = omega arith in
+    ap (λ (k : ℕ). le (octetsAt s at k)) e ∙ le-parts s at 1 (n - 1)
+
+-- a few octets spell no more than some others after them
+pub le-few : (s : List ℕ) (at n : ℕ) → Bytes s → n ≤ 7 → le (octetsAt s at n) < 256 ^ 7
+le-few s at n h few =
+    let e : n + (7 - n) ≡ 7 = omega arith in
+    let all : le (octetsAt s at 7) ≡ le (octetsAt s at n) + 256 ^ n * le (octetsAt s (at + n) (7 - n)) =
+    ap (λ (k : ℕ). le (octetsAt s at k)) (sym e) ∙ le-parts s at n (7 - n) in
+    let below : le (octetsAt s at 7) < 256 ^ 7 = rw length-octets at (le-below (octetsAt s at 7) (Bytes-octets s at 7 h)) in
+    omega (arith, all, below)
+
+-- or of four, in four
+pub le-four : (s : List ℕ) (at : ℕ) → Bytes s → le (octetsAt s at 4) < 256 ^ 4
+le-four s at h = rw length-octets at (le-below (octetsAt s at 4) (Bytes-octets s at 4 h))
+
+-- of some octets the first is asked, and then the rest
 pub zero-first : (s : List ℕ) (at n : ℕ) → (n ≡ 0 → ⊥) → allZero (octetsAt s at n) ≡ (eqb (getD s at 0) 0 && allZero (octetsAt s (at + 1) (n - 1)))
 unfolding allZero
 zero-first s at n h = rw (octets-first s at n h)

@@ -2,7 +2,7 @@
 //
 // Every function is total: an octet past the end of a slice reads as 0, and one written there is dropped. So a caller has no
 // fact to show. A caller that has tested the length first pays for no second test: the compiler folds them.
-ghost use Rattle.octets.specs.Words.{_≡_};
+ghost use Rattle.octets.specs.Words.{_+_, _<_, _≤_, _≡_, length, leb};
 ghost use Rattle.octets.specs.Octets.{octetsAt, le, be, put, leBytes, beBytes, allZero, sameOctets};
 
 // The octet at a place.
@@ -18,6 +18,119 @@ pub fn put_u8(d: &mut [u8], at: usize, v: u8)
 {
     if at < d.len() {
         d[at] = v;
+    }
+}
+
+// ---- whole numbers, and those that are cut by the end. A number whose octets all lie inside is read and written with one test of the
+// length; the compiler makes one load or store of it. The others go octet by octet.
+
+// Whether n octets from a place on lie inside a slice of so many.
+fn lies_inside(len: usize, at: usize, n: usize) -> bool
+    ensures { λ r. ⌜ r ≡ leb (at + n) len ⌝ }
+{
+    if len < n {
+        return false;
+    }
+    if len - n < at {
+        return false;
+    }
+    true
+}
+
+// The octet at a place inside.
+fn one(s: &[u8], at: usize) -> u8
+    requires { ⌜ at < length (now s) ⌝ }
+    ensures { λ r. ⌜ r ≡ le (octetsAt (now (s .entry)) at 1) ⌝ }
+{
+    s[at]
+}
+
+// The number of 16 bits at a place, all of it inside, least significant octet first.
+fn two_le(s: &[u8], at: usize) -> u16
+    requires { ⌜ at + 2 ≤ length (now s) ⌝ }
+    ensures { λ r. ⌜ r ≡ le (octetsAt (now (s .entry)) at 2) ⌝ }
+{
+    let low = one(s, at);
+    let high = one(s, at + 1);
+    (low as u16) + (high as u16) * 256
+}
+
+// The same of 32 bits.
+fn four_le(s: &[u8], at: usize) -> u32
+    requires { ⌜ at + 4 ≤ length (now s) ⌝ }
+    ensures { λ r. ⌜ r ≡ le (octetsAt (now (s .entry)) at 4) ⌝ }
+{
+    let low = two_le(s, at);
+    let high = two_le(s, at + 2);
+    (low as u32) + (high as u32) * 65536
+}
+
+// The same of 64 bits.
+fn eight_le(s: &[u8], at: usize) -> u64
+    requires { ⌜ at + 8 ≤ length (now s) ⌝ }
+    ensures { λ r. ⌜ r ≡ le (octetsAt (now (s .entry)) at 8) ⌝ }
+{
+    let low = four_le(s, at);
+    let high = four_le(s, at + 4);
+    (low as u64) + (high as u64) * 4294967296
+}
+
+// The number that n octets from a place on spell, at most eight, least significant octet first.
+fn some_le(s: &[u8], at: usize, n: usize) -> u64
+    requires { ⌜ n ≤ 8 ⌝ }
+    ensures { λ r. ⌜ r ≡ le (octetsAt (now (s .entry)) at n) ⌝ }
+{
+    if n == 0 {
+        return 0;
+    }
+    if s.len() <= at {
+        return 0;
+    }
+    (one(s, at) as u64) + some_le(s, at + 1, n - 1) * 256
+}
+
+// Puts a number of 16 bits at a place, all of it inside, least significant octet first.
+fn put_two_le(d: &mut [u8], at: usize, v: u16)
+    requires { ⌜ at + 2 ≤ length (now d) ⌝ }
+    ensures { λ r. ⌜ now (d .exit) ≡ put (now (d .entry)) at (leBytes 2 v) ⌝ }
+{
+    d[at] = (v % 256) as u8;
+    d[at + 1] = (v / 256) as u8;
+}
+
+// The same of 32 bits.
+fn put_four_le(d: &mut [u8], at: usize, v: u32)
+    requires { ⌜ at + 4 ≤ length (now d) ⌝ }
+    ensures { λ r. ⌜ now (d .exit) ≡ put (now (d .entry)) at (leBytes 4 v) ⌝ }
+{
+    put_two_le(d, at, (v % 65536) as u16);
+    put_two_le(d, at + 2, (v / 65536) as u16);
+}
+
+// The same of 64 bits.
+fn put_eight_le(d: &mut [u8], at: usize, v: u64)
+    requires { ⌜ at + 8 ≤ length (now d) ⌝ }
+    ensures { λ r. ⌜ now (d .exit) ≡ put (now (d .entry)) at (leBytes 8 v) ⌝ }
+{
+    put_four_le(d, at, (v % 4294967296) as u32);
+    put_four_le(d, at + 4, (v / 4294967296) as u32);
+}
+
+// Puts the n lowest octets of a number at a place, so far as they lie inside.
+fn put_some_le(d: &mut [u8], at: usize, n: usize, v: u64)
+    ensures { λ r. ⌜ now (d .exit) ≡ put (now (d .entry)) at (leBytes n v) ⌝ }
+{
+    let mut i = at;
+    let mut left = n;
+    let mut rest = v;
+    while left != 0 {
+        if d.len() <= i {
+            return;
+        }
+        d[i] = (rest % 256) as u8;
+        i += 1;
+        left -= 1;
+        rest /= 256;
     }
 }
 
@@ -52,50 +165,42 @@ pub fn put_u16_le(d: &mut [u8], at: usize, v: u16)
 pub fn get_u32_le(s: &[u8], at: usize) -> u32
     ensures { λ r. ⌜ r ≡ le (octetsAt (now (s .entry)) at 4) ⌝ }
 {
-    if s.len() <= at {
-        return 0;
+    if lies_inside(s.len(), at, 4) {
+        return four_le(s, at);
     }
-    let low = get_u16_le(s, at);
-    let high = get_u16_le(s, at + 2);
-    (low as u32) + (high as u32) * 65536
+    some_le(s, at, 4) as u32
 }
 
 // Puts a number of 32 bits at a place, least significant octet first.
 pub fn put_u32_le(d: &mut [u8], at: usize, v: u32)
     ensures { λ r. ⌜ now (d .exit) ≡ put (now (d .entry)) at (leBytes 4 v) ⌝ }
 {
-    if d.len() <= at {
+    if lies_inside(d.len(), at, 4) {
+        put_four_le(d, at, v);
         return;
     }
-    let low = (v % 65536) as u16;
-    let high = (v / 65536) as u16;
-    put_u16_le(d, at, low);
-    put_u16_le(d, at + 2, high);
+    put_some_le(d, at, 4, v as u64);
 }
 
 // The number of 64 bits at a place, least significant octet first.
 pub fn get_u64_le(s: &[u8], at: usize) -> u64
     ensures { λ r. ⌜ r ≡ le (octetsAt (now (s .entry)) at 8) ⌝ }
 {
-    if s.len() <= at {
-        return 0;
+    if lies_inside(s.len(), at, 8) {
+        return eight_le(s, at);
     }
-    let low = get_u32_le(s, at);
-    let high = get_u32_le(s, at + 4);
-    (low as u64) + (high as u64) * 4294967296
+    some_le(s, at, 8)
 }
 
 // Puts a number of 64 bits at a place, least significant octet first.
 pub fn put_u64_le(d: &mut [u8], at: usize, v: u64)
     ensures { λ r. ⌜ now (d .exit) ≡ put (now (d .entry)) at (leBytes 8 v) ⌝ }
 {
-    if d.len() <= at {
+    if lies_inside(d.len(), at, 8) {
+        put_eight_le(d, at, v);
         return;
     }
-    let low = (v % 4294967296) as u32;
-    let high = (v / 4294967296) as u32;
-    put_u32_le(d, at, low);
-    put_u32_le(d, at + 4, high);
+    put_some_le(d, at, 8, v);
 }
 
 // ---- most significant octet first. A number of twice the width is its two halves.

@@ -1,9 +1,16 @@
--- `get_u32_le`: the law of two halves at 2 and 2 octets; past the end both sides are 0. Assumes nothing.
-use Rattle.octets.proofs.Tools.{sym, arith, needs}
-use Rattle.octets.proofs.OctetsLaws.{le-past, le-parts}
+-- `get_u32_le`: both ways answer the number of 4 octets at the place; the first is taken where they lie inside. Assumes nothing.
+use Rattle.octets.proofs.Tools.{sym, _∙_, arith, leb-true, needs}
+use Rattle.octets.proofs.OctetsLaws.{le-four}
 use Rattle.octets.proofs.get_u32_le.Statement.{statement}
 use Rattle.octets.proofs.get_u32_le.Tie as tie
 
+four-le-requires : tie.Need-four-le-requires
+four-le-requires c κs = leb-true _ _ (sym (c .before .lies-inside .ensures) ∙ c .if1 .taken)
+
+cast-result : tie.Need-cast-result
+cast-result c =
+    let known = c .before .before .before in let a = known .before .args in
+    omega (arith, c .some-le .ensures, le-four (a .s .now) (a .at) (λ i. known .shared-slice-known .given i .fits))
+
 pub get-u32-le-spec : {M : Type 1} → statement M
-get-u32-le-spec = tie.close (tie.spec (λ c. sym (le-past _ _ 4 (c .if1 .taken))) (search needs) (search needs) (search needs) (search needs) (search needs) (search needs)
-    (search needs) (λ c. let a = c .before .before .before .before .args in omega (arith, le-parts (a .s .now) (a .at) 2 2)))
+get-u32-le-spec = tie.close (tie.spec (λ c κs. search needs) four-le-requires (λ c. search needs) (λ c κs. search needs) cast-result (λ c. search needs))

@@ -1,9 +1,11 @@
--- `put_u64_le`: the law of two halves at 4 and 4 octets; past the end neither side stores. Assumes nothing.
-use Rattle.octets.proofs.Tools.{sym, needs}
-use Rattle.octets.proofs.OctetsLaws.{put-past, put-parts}
+-- `put_u64_le`: both ways put the 8 octets of the number; the first is taken where they lie inside. Assumes nothing.
+use Rattle.octets.proofs.Tools.{sym, _∙_, leb-true, needs}
 use Rattle.octets.proofs.put_u64_le.Statement.{statement}
 use Rattle.octets.proofs.put_u64_le.Tie as tie
 
+put-eight-le-requires : tie.Need-put-eight-le-requires
+put-eight-le-requires c κs = leb-true _ _ (sym (c .before .before .lies-inside .ensures) ∙ c .before .if1 .taken)
+
 pub put-u64-le-spec : {M : Type 1} → statement M
-put-u64-le-spec = tie.close (tie.spec (λ c. sym (put-past _ _ _ (c .if1 .taken))) (search needs) (search needs) (search needs) (search needs) (search needs)
-    (search needs) (λ c. let a = c .before .before .before .before .before .before .before .before .before .before .args in cc (put-parts (a .d .now) (a .at) 4 4 (a .v))))
+put-u64-le-spec = tie.close (tie.spec (λ c κs. search needs) put-eight-le-requires (λ c. search needs) (λ c. search needs) (λ c κs. search needs) (λ c. search needs)
+    (λ c. search needs))
