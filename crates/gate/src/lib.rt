@@ -60,12 +60,7 @@ fn is_under(bytes: &[u8], cookie: SocketCookie, token: DurableFenceToken) -> boo
 }
 
 // From a place after which there is no second whole record: the record there, where it stands under the key; else an empty part.
-fn find_last(
-    table: &[u8],
-    at: usize,
-    cookie: SocketCookie,
-    token: DurableFenceToken,
-) -> &[u8]
+fn find_last(table: &[u8], at: usize, cookie: SocketCookie, token: DurableFenceToken) -> &[u8]
     requires { ⌜ (at ≤ length (now table)) × (length (now table) < at + 80) ⌝ }
     ensures { λ r. ⌜ FirstFrom at (cookie .0) (token .0) (table .entry) r ⌝ }
 {
