@@ -1,16 +1,16 @@
 -- What the functions inside a view leave: their answers, under 0 and under a refusal; one more zero at the start of a list, by induction
--- on the zeros that stand there; of some numbers to copy the first, and then the rest; sixteen octets as two numbers of eight, and zeros
--- in a run; and the last octets of a number, most significant first. Assumes nothing.
-use Rattle.octets.specs.Words.{ℕ, zero, suc, _+_, _-_, _%_, _^_, _<_, _≡_, List, [], _∷_, _++_, reverse, length, drop, replicate, set}
-use Rattle.octets.proofs.Tools.{refl, sym, ap, _∙_, arith, eq-eqb, ne-eqb}
+-- on the zeros that stand there; sixteen octets as two numbers of eight, and zeros in a run; and the last octets of a number, most
+-- significant first. Assumes nothing.
+use Rattle.octets.specs.Words.{ℕ, zero, suc, _+_, _%_, _^_, _<_, _≤_, _≡_, List, [], _∷_, _++_, reverse, length, getD, take, drop, replicate, set}
+use Rattle.octets.proofs.Tools.{refl, sym, ap, _∙_, arith, eq-eqb, ne-eqb, lt-leb}
 use native.Mathlib.Numerals.{add-one}
 use Rattle.octets.specs.Octets.{Bytes, octetsAt, put, le, leBytes, beBytes}
 use Rattle.octets.proofs.OctetsLaws.{leBytes-mod, length-octets, octets-append, put-append, put-parts}
 use Rattle.config.proofs.AddressLaws.{octets-back}
-use Rattle.codec.specs.Codec.{roomAnswer}
-use Rattle.codec.proofs.CodecLaws.{room-done}
+use Rattle.codec.specs.Codec.{roomAnswer, written}
+use Rattle.codec.proofs.CodecLaws.{room-done, room-given, written-done}
 use Rattle.export.specs.View.{cleared}
-use Rattle.export.specs.Inner.Steps.{imageCleared, Shown, Stored, copied}
+use Rattle.export.specs.Inner.Steps.{imageCleared, Shown}
 
 -- ---- what `decode_number` answers
 
@@ -22,7 +22,7 @@ module _ (read n : ℕ) (out : List ℕ) where
   pub answer-room : {m : ℕ} → read ≡ 0 → m ≡ roomAnswer 0 n (length out) → (m ≡ roomAnswer read n (length out)) × (out ≡ imageCleared read n out)
   answer-room z p = (rw z p, simp (eq-eqb read 0 z))
 
--- ---- answers: m is what `decode_number` or `room_number` gave, mid what stands after the first
+-- ---- answers: m is what `decode_number` gave, mid what stands after it
 
 module _ {read n m : ℕ} {out mid : List ℕ} (p : (m ≡ roomAnswer read n (length out)) × (mid ≡ imageCleared read n out)) where
   pub shown-done : {out′ : List ℕ} (there : List ℕ → List ℕ) → m ≡ 0 → out′ ≡ there mid → Shown read n (there out) out m out′
@@ -34,12 +34,15 @@ module _ {read n m : ℕ} {out mid : List ℕ} (p : (m ≡ roomAnswer read n (le
   pub shown-refused : {there : List ℕ} → (m ≡ 0 → ⊥) → Shown read n there out m mid
   shown-refused h = record { number = p .0; output = simp (ne-eqb m 0 h) (p .1) }
 
-module _ {refusal n m : ℕ} {there out : List ℕ} (p : m ≡ roomAnswer refusal n (length out)) where
-  pub stored-done : {out′ : List ℕ} → m ≡ 0 → out′ ≡ there → Stored refusal n there out m out′
-  stored-done z q = record { number = p; output = simp (eq-eqb m 0 z) q }
+-- ---- what `store` answers
 
-  pub stored-refused : (m ≡ 0 → ⊥) → Stored refusal n there out m out
-  stored-refused h = record { number = p; output = simp (ne-eqb m 0 h) }
+module _ (bytes out : List ℕ) where
+  pub stored-short : length out < length bytes → (4 ≡ roomAnswer 0 (length bytes) (length out)) × (out ≡ written 4 bytes out)
+  unfolding roomAnswer written
+  stored-short h = (simp (lt-leb _ _ h), refl)
+
+  pub stored-done : {out′ : List ℕ} → length bytes ≤ length out → out′ ≡ bytes ++ drop (length bytes) out → (0 ≡ roomAnswer 0 (length bytes) (length out)) × (out′ ≡ written 0 bytes out)
+  stored-done h q = (sym (room-given (length bytes) (length out) h), q ∙ sym (written-done 0 bytes out refl))
 
 -- ---- stores
 
@@ -51,12 +54,15 @@ one-more (suc i) (x ∷ d) h = ap (λ (l : List ℕ). 0 ∷ l) (one-more i d (om
 pub clear-step : (i : ℕ) (d : List ℕ) → i < length d → set (replicate i 0 ++ drop i d) i 0 ≡ replicate (i + 1) 0 ++ drop (i + 1) d
 clear-step i d h = rw add-one (one-more i d h)
 
-pub copy-step : (n : ℕ) (s : List ℕ) (i : ℕ) (d : List ℕ) (j : ℕ) → (n ≡ 0 → ⊥) →
-    copied n s i d j ≡ copied (n - 1) s (i + 8) (put d j (leBytes 8 (le (octetsAt s i 8)))) (j + 8)
-copy-step zero s i d j h = absurd (h refl)
-copy-step (suc n) s i d j h =
-    let e : n ≡ suc n - 1 = omega arith in
-    ap (λ (k : ℕ). copied k s (i + 8) (put d j (leBytes 8 (le (octetsAt s i 8)))) (j + 8)) e
+-- the same of a copy: the octets of s in the place of the first of d
+one-copied : (i : ℕ) (s d : List ℕ) → i < length s → i < length d → set (take i s ++ drop i d) i (getD s i 0) ≡ take (suc i) s ++ drop (suc i) d
+one-copied i [] d h g = absurd (omega arith)
+one-copied i (y ∷ s) [] h g = absurd (omega arith)
+one-copied zero (y ∷ s) (x ∷ d) h g = refl
+one-copied (suc i) (y ∷ s) (x ∷ d) h g = ap (λ (l : List ℕ). y ∷ l) (one-copied i s d (omega arith) (omega arith))
+
+pub copy-step : (i : ℕ) (s d : List ℕ) → i < length s → i < length d → set (take i s ++ drop i d) i (getD s i 0) ≡ take (i + 1) s ++ drop (i + 1) d
+copy-step i s d h g = rw add-one (one-copied i s d h g)
 
 pub beBytes-mod : (n v : ℕ) → beBytes n (v % 256 ^ n) ≡ beBytes n v
 unfolding beBytes

@@ -1,5 +1,4 @@
--- The laws of every view, proved once: what its decoder answers, its encoder, and the refusal of an image, by what the functions inside
--- did. A view owes `Viewable`: its codec's laws, a slot for each field, room in the image for each own number, and that its fixed fields
+-- The laws of every view, proved once: what its decoder answers, and its encoder, by what the functions inside did. A view owes `Viewable`: its codec's laws, a slot for each field, room in the image for each own number, and that its fixed fields
 -- are those of every record. Assumes nothing.
 pub use Rattle.octets.proofs.Tools.{refl, free, needs}
 pub use lib.Dec.{lit≤}
@@ -14,9 +13,9 @@ use Rattle.codec.specs.Layout.{Field, width, size, fieldsAt, laid, Fit}
 use Rattle.codec.specs.Inner.Stores.{puts}
 use Rattle.codec.specs.Codec.{Codec, ok, decodeNumber, decodeValue, roomAnswer, unsoundNumber, written}
 use Rattle.codec.proofs.LayoutLaws.{fields-laid, length-laid, puts-laid, put-laid, fit-fields, length-fields, laid-fields}
-use Rattle.codec.proofs.CodecLaws.{Lawful, accepted-ok, room-done}
+use Rattle.codec.proofs.CodecLaws.{Lawful, accepted-ok, room-done, written-refused}
 use Rattle.export.specs.View.{Slot, own, fixed, View, pick, spread, wide, fitting, imageSize, image, viewDecodeNumber, viewDecodeOut, numbers, cleared, soundImage, imageRefusal, viewEncodeNumber, viewEncodeOut, ViewDecoded, ViewEncoded}
-use Rattle.export.specs.Inner.Steps.{Shown, Stored, shown, stored}
+use Rattle.export.specs.Inner.Steps.{Shown, shown, stored}
 
 -- each own number has as many octets in the image as in the layout, or more
 abbrev pub roomy : List Slot → List Field → Bool
@@ -123,20 +122,6 @@ decoded {R} {W} {Formed} L {s} {out} {out′} {n} {m} h e p =
 
 -- ---- encoding
 
--- b is the refusal of the image, and m what is answered of it
-pub encoded : {R : Type 0} {W : View R} {Formed : R → Type 0} (L : Viewable W Formed) {f out out′ : List ℕ} {b m : ℕ} → b ≡ imageRefusal W f →
-    Stored b (size (W .codec .layout)) (stored W f out) out m out′ → ViewEncoded W f out m out′
-unfolding viewEncodeNumber viewEncodeOut
-encoded {R} {W} {Formed} L {f} {out} {out′} {b} {m} s p =
-    let fs = W .codec .layout in
-    let answered : m ≡ roomAnswer (imageRefusal W f) (size fs) (length out) = rw s at (p .number) in
-    let there : m ≡ 0 → stored W f out ≡ laid fs (numbers W f) ++ drop (length (laid fs (numbers W f))) out =
-    λ m0. puts-start fs (numbers W f) out (count-numbers W f (L .counted)) (room-done (imageRefusal W f) (size fs) (length out) (sym answered ∙ m0) .1) in
-    record {
-      number = answered;
-      output = p .output ∙ left-written m (stored W f out) (laid fs (numbers W f)) out there ∙ ap (λ (k : ℕ). written k (laid fs (numbers W f)) out) answered;
-    }
-
 is-zero : (b : Bool) → eqb (cond b 0 2) 0 ≡ b
 is-zero true = refl
 is-zero false = refl
@@ -146,44 +131,58 @@ pub taken : {R : Type 0} (C : Codec R) (vs : List ℕ) → length vs ≡ length 
 unfolding decodeNumber
 taken C vs count fit = simp (eq-eqb _ _ (length-laid (C .layout) vs count), fields-laid (C .layout) vs fit) (is-zero (ok C vs))
 
--- ---- the refusal of an image f: its length, a number that does not fit, and bytes on trial, of which n is the decoder's number
+-- ---- the answers of an encoder on an image f
 
-module _ {R : Type 0} (W : View R) (f : List ℕ) where
-  pub refused-length : (length f ≡ imageSize W → ⊥) → 1 ≡ imageRefusal W f
+module _ {R : Type 0} (W : View R) (f : List ℕ) {out : List ℕ} where
+  -- under a refusal the output is left
+  refused : {m : ℕ} → m ≡ imageRefusal W f → (m ≡ 0 → ⊥) → ViewEncoded W f out m out
+  unfolding viewEncodeNumber viewEncodeOut roomAnswer
+  refused {m} e h =
+      let answered : m ≡ viewEncodeNumber W f out = rw (sym e) (simp (ne-eqb m 0 h)) in
+      record { number = answered; output = sym (rw (sym answered) (written-refused m (laid (W .codec .layout) (numbers W f)) out h)) }
+
+  -- a wrong length
+  pub refused-length : (length f ≡ imageSize W → ⊥) → ViewEncoded W f out 1 out
   unfolding imageRefusal
-  refused-length h = simp (ne-eqb _ _ h)
+  refused-length h = refused (simp (ne-eqb _ _ h)) (λ e. omega arith)
 
-  pub refused-wide : length f ≡ imageSize W → fitting (W .codec .layout) (numbers W f) ≡ false → 3 ≡ imageRefusal W f
+  -- a number that does not fit
+  pub refused-wide : length f ≡ imageSize W → fitting (W .codec .layout) (numbers W f) ≡ false → ViewEncoded W f out 3 out
   unfolding imageRefusal soundImage
-  refused-wide e h = simp (eq-eqb _ _ e, h)
+  refused-wide e h = refused (simp (eq-eqb _ _ e, h)) (λ e. omega arith)
 
-module _ {R : Type 0} {W : View R} {Formed : R → Type 0} (L : Viewable W Formed) (f : List ℕ) (long : length f ≡ imageSize W) where
-  -- numbers that fit are a sound record's where the decoder takes their bytes
-  judged : {n m : ℕ} → fitting (W .codec .layout) (numbers W f) ≡ true → n ≡ decodeNumber (W .codec) (laid (W .codec .layout) (numbers W f)) → m ≡ cond (eqb n 0) 0 3 →
-      m ≡ imageRefusal W f
-  unfolding imageRefusal soundImage
-  judged fits q p =
-      let count = count-numbers W f (L .counted) in
-      let sound = ap (λ (k : ℕ). eqb k 0) q ∙ taken (W .codec) (numbers W f) count (fit-fitting (W .codec .layout) (numbers W f) count fits) in
-      simp (eq-eqb _ _ long, fits) (p ∙ ap unsoundNumber sound)
-
-  -- bytes that were put into zeros
-  pub on-trial : {n m : ℕ} {trial : List ℕ} → fitting (W .codec .layout) (numbers W f) ≡ true → trial ≡ stored W f (replicate (size (W .codec .layout)) 0) →
-      n ≡ decodeNumber (W .codec) trial → m ≡ cond (eqb n 0) 0 3 → m ≡ imageRefusal W f
-  on-trial fits t q p =
+-- bytes that were put into zeros, and tried: n is the decoder's number
+module _ {R : Type 0} {W : View R} {Formed : R → Type 0} (L : Viewable W Formed) (f : List ℕ) {n : ℕ} {trial : List ℕ}
+    (long : length f ≡ imageSize W) (fits : fitting (W .codec .layout) (numbers W f) ≡ true) (t : trial ≡ stored W f (replicate (size (W .codec .layout)) 0))
+    (q : n ≡ decodeNumber (W .codec) trial) where
+  -- they are the record's
+  on-trial : trial ≡ laid (W .codec .layout) (numbers W f)
+  on-trial =
       let fs = W .codec .layout in
       let vs = numbers W f in
       let zeros : List ℕ = replicate (size fs) 0 in
       let none : drop (size fs) zeros ≡ [] = drop-of-length-le zeros {i = size fs} (rw length-replicate (omega arith)) in
       let room : size fs ≤ length zeros = rw length-replicate (omega arith) in
-      let there : stored W f zeros ≡ laid fs vs =
-      puts-laid fs vs zeros 0 ∙ put-laid fs vs zeros (count-numbers W f (L .counted)) room ∙ ap (λ (l : List ℕ). laid fs vs ++ l) none ∙ append-nil (laid fs vs) in
-      judged fits (q ∙ ap (decodeNumber (W .codec)) (t ∙ there)) p
+      t ∙ puts-laid fs vs zeros 0 ∙ put-laid fs vs zeros (count-numbers W f (L .counted)) room ∙ ap (λ (l : List ℕ). laid fs vs ++ l) none ∙ append-nil (laid fs vs)
 
-  -- an image that is the record's bytes
-  pub on-itself : {n m : ℕ} → imageSize W ≡ size (W .codec .layout) → numbers W f ≡ fieldsAt (W .codec .layout) f 0 → Bytes f →
-      n ≡ decodeNumber (W .codec) f → m ≡ cond (eqb n 0) 0 3 → m ≡ imageRefusal W f
-  on-itself whole-size same h q p =
+  -- and numbers that fit are a sound record's where the decoder takes their bytes
+  judged : unsoundNumber (eqb n 0) ≡ imageRefusal W f
+  unfolding imageRefusal soundImage
+  judged =
+      let count = count-numbers W f (L .counted) in
+      let sound : eqb n 0 ≡ ok (W .codec) (numbers W f) =
+      ap (λ (k : ℕ). eqb k 0) (q ∙ ap (decodeNumber (W .codec)) on-trial) ∙ taken (W .codec) (numbers W f) count (fit-fitting (W .codec .layout) (numbers W f) count fits) in
+      simp (eq-eqb _ _ long, fits) (ap unsoundNumber sound)
+
+  pub tried-refused : {out : List ℕ} → (n ≡ 0 → ⊥) → ViewEncoded W f out 3 out
+  tried-refused h = refused W f (simp (ne-eqb n 0 h) at judged) (λ e. omega arith)
+
+  pub tried-taken : {m : ℕ} {out out′ : List ℕ} → n ≡ 0 → (m ≡ roomAnswer 0 (length trial) (length out)) × (out′ ≡ written m trial out) → ViewEncoded W f out m out′
+  unfolding viewEncodeNumber viewEncodeOut
+  tried-taken {m} {out} z p =
       let fs = W .codec .layout in
-      let fits : fitting fs (numbers W f) ≡ true = rw same (fitting-fit fs (fieldsAt fs f 0) (fit-fields fs f 0 h)) in
-      judged fits (q ∙ ap (decodeNumber (W .codec)) (sym (ap (laid fs) same ∙ laid-fields fs f h (long ∙ whole-size)))) p
+      let vs = numbers W f in
+      let none : imageRefusal W f ≡ 0 = sym (simp (eq-eqb n 0 z) at judged) in
+      let size-of : length trial ≡ size fs = ap length on-trial ∙ length-laid fs vs (count-numbers W f (L .counted)) in
+      let answered : m ≡ viewEncodeNumber W f out = rw none (p .0 ∙ ap (λ (k : ℕ). roomAnswer 0 k (length out)) size-of) in
+      record { number = answered; output = p .1 ∙ ap (λ (b : List ℕ). written m b out) on-trial ∙ ap (λ (k : ℕ). written k (laid fs vs) out) answered }

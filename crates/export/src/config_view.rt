@@ -1,7 +1,7 @@
 // The configuration for programs in other languages. Its fields: family, port, capacity, root cgroup, and the sixteen bytes of the address.
 use config::FenceConfig;
 ghost use Rattle.octets.specs.Words.{_≡_};
-ghost use Rattle.export.specs.View.{fitting, numbers, imageRefusal, ViewDecoded, ViewEncoded};
+ghost use Rattle.export.specs.View.{fitting, numbers, ViewDecoded, ViewEncoded};
 ghost use Rattle.export.specs.Views.{configView};
 ghost use Rattle.export.specs.Inner.Steps.{stored};
 
@@ -26,23 +26,9 @@ fn write(fields: &[u8], out: &mut [u8])
     octets::put_u16_be(out, 8, (octets::get_u64_le(fields, 8) % 65536) as u16);
     octets::put_u16_le(out, 10, 0);
     crate::view::narrow_four(fields, 16, out, 12);
-    crate::view::copy(fields, 24, out, 16, 3);
-}
-
-// The refusal of fields: 1 for another length, 3 where one does not fit its place or the decoder does not take the bytes that they give,
-// else 0.
-fn refusal(fields: &[u8]) -> u32
-    ensures { λ r. ⌜ r ≡ imageRefusal configView (now (fields .entry)) ⌝ }
-{
-    if fields.len() != FIELDS {
-        return 1;
-    }
-    if !fits(fields) {
-        return 3;
-    }
-    let mut trial = [0u8; 40];
-    write(fields, &mut trial);
-    crate::view::trial_number(FenceConfig::decode(&trial).number)
+    crate::view::carry(fields, 24, out, 16);
+    crate::view::carry(fields, 32, out, 24);
+    crate::view::carry(fields, 40, out, 32);
 }
 
 // From bytes to fields.
@@ -56,19 +42,28 @@ pub extern "C" fn threadwicket_config_decode(bytes: &[u8], fields: &mut [u8]) ->
         crate::view::widen_one(bytes, 6, fields, 0);
         octets::put_u64_le(fields, 8, octets::get_u16_be(bytes, 8) as u64);
         crate::view::widen_four(bytes, 12, fields, 16);
-        crate::view::copy(bytes, 16, fields, 24, 3);
+        crate::view::carry(bytes, 16, fields, 24);
+        crate::view::carry(bytes, 24, fields, 32);
+        crate::view::carry(bytes, 32, fields, 40);
     }
     number
 }
 
-// From fields to bytes.
+// From fields to bytes. The decoder is tried on the bytes that they give.
 #[no_mangle]
 pub extern "C" fn threadwicket_config_encode(fields: &[u8], bytes: &mut [u8]) -> u32
     ensures { λ r. ⌜ ViewEncoded configView (now (fields .entry)) (now (bytes .entry)) r (now (bytes .exit)) ⌝ }
 {
-    let number = codec::room_number(refusal(fields), FenceConfig::LEN, bytes.len());
-    if number == 0 {
-        write(fields, bytes);
+    if fields.len() != FIELDS {
+        return 1;
     }
-    number
+    if !fits(fields) {
+        return 3;
+    }
+    let mut trial = [0u8; 40];
+    write(fields, &mut trial);
+    if FenceConfig::decode(&trial).number != 0 {
+        return 3;
+    }
+    crate::view::store(&trial, bytes)
 }

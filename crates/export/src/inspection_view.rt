@@ -3,7 +3,7 @@
 use inspection::FenceInspection;
 ghost use Rattle.octets.specs.Words.{_≡_};
 ghost use Rattle.octets.specs.Octets.{put, leBytes};
-ghost use Rattle.export.specs.View.{fitting, numbers, imageRefusal, ViewDecoded, ViewEncoded};
+ghost use Rattle.export.specs.View.{fitting, numbers, ViewDecoded, ViewEncoded};
 ghost use Rattle.export.specs.Views.{inspectionView};
 ghost use Rattle.export.specs.Inner.Steps.{stored};
 
@@ -38,27 +38,17 @@ fn write(fields: &[u8], out: &mut [u8])
     crate::view::write_head(fields, out, FenceInspection::MARK, FenceInspection::VERSION);
     octets::put_u32_le(out, 8, 0);
     crate::view::narrow_four(fields, 8, out, 12);
-    crate::view::copy(fields, 16, out, 16, 4);
+    crate::view::carry(fields, 16, out, 16);
+    crate::view::carry(fields, 24, out, 24);
+    crate::view::carry(fields, 32, out, 32);
+    crate::view::carry(fields, 40, out, 40);
     octets::put_u32_le(out, 48, 0);
     crate::view::narrow_four(fields, 48, out, 52);
-    crate::view::copy(fields, 56, out, 56, 4);
+    crate::view::carry(fields, 56, out, 56);
+    crate::view::carry(fields, 64, out, 64);
+    crate::view::carry(fields, 72, out, 72);
+    crate::view::carry(fields, 80, out, 80);
     write_tail(out);
-}
-
-// The refusal of fields: 1 for another length, 3 where one does not fit its place or the decoder does not take the bytes that they give,
-// else 0.
-fn refusal(fields: &[u8]) -> u32
-    ensures { λ r. ⌜ r ≡ imageRefusal inspectionView (now (fields .entry)) ⌝ }
-{
-    if fields.len() != FIELDS {
-        return 1;
-    }
-    if !fits(fields) {
-        return 3;
-    }
-    let mut trial = [0u8; 128];
-    write(fields, &mut trial);
-    crate::view::trial_number(FenceInspection::decode(&trial).number)
 }
 
 // From bytes to fields.
@@ -71,21 +61,34 @@ pub extern "C" fn threadwicket_inspection_decode(bytes: &[u8], fields: &mut [u8]
     if number == 0 {
         crate::view::widen_one(bytes, 6, fields, 0);
         crate::view::widen_four(bytes, 12, fields, 8);
-        crate::view::copy(bytes, 16, fields, 16, 4);
+        crate::view::carry(bytes, 16, fields, 16);
+        crate::view::carry(bytes, 24, fields, 24);
+        crate::view::carry(bytes, 32, fields, 32);
+        crate::view::carry(bytes, 40, fields, 40);
         crate::view::widen_four(bytes, 52, fields, 48);
-        crate::view::copy(bytes, 56, fields, 56, 4);
+        crate::view::carry(bytes, 56, fields, 56);
+        crate::view::carry(bytes, 64, fields, 64);
+        crate::view::carry(bytes, 72, fields, 72);
+        crate::view::carry(bytes, 80, fields, 80);
     }
     number
 }
 
-// From fields to bytes.
+// From fields to bytes. The decoder is tried on the bytes that they give.
 #[no_mangle]
 pub extern "C" fn threadwicket_inspection_encode(fields: &[u8], bytes: &mut [u8]) -> u32
     ensures { λ r. ⌜ ViewEncoded inspectionView (now (fields .entry)) (now (bytes .entry)) r (now (bytes .exit)) ⌝ }
 {
-    let number = codec::room_number(refusal(fields), FenceInspection::LEN, bytes.len());
-    if number == 0 {
-        write(fields, bytes);
+    if fields.len() != FIELDS {
+        return 1;
     }
-    number
+    if !fits(fields) {
+        return 3;
+    }
+    let mut trial = [0u8; 128];
+    write(fields, &mut trial);
+    if FenceInspection::decode(&trial).number != 0 {
+        return 3;
+    }
+    crate::view::store(&trial, bytes)
 }

@@ -1,17 +1,16 @@
 // A key for programs in other languages. Its fields: cookie, token.
 use records::key::FenceCookieKey;
 ghost use Rattle.octets.specs.Words.{_≡_};
-ghost use Rattle.export.specs.View.{imageRefusal, ViewDecoded, ViewEncoded};
+ghost use Rattle.export.specs.View.{ViewDecoded, ViewEncoded};
 ghost use Rattle.export.specs.Views.{keyView};
+ghost use Rattle.export.specs.Inner.Steps.{stored};
 
-// The refusal of fields: 1 for another length, 3 where the decoder does not take the bytes that they give, else 0.
-fn refusal(fields: &[u8]) -> u32
-    ensures { λ r. ⌜ r ≡ imageRefusal keyView (now (fields .entry)) ⌝ }
+// The bytes of fields.
+fn write(fields: &[u8], out: &mut [u8])
+    ensures { λ r. ⌜ now (out .exit) ≡ stored keyView (now (fields .entry)) (now (out .entry)) ⌝ }
 {
-    if fields.len() != 16 {
-        return 1;
-    }
-    crate::view::trial_number(FenceCookieKey::decode(fields).number)
+    crate::view::carry(fields, 0, out, 0);
+    crate::view::carry(fields, 8, out, 8);
 }
 
 // From bytes to fields.
@@ -19,13 +18,27 @@ fn refusal(fields: &[u8]) -> u32
 pub extern "C" fn threadwicket_key_decode(bytes: &[u8], fields: &mut [u8]) -> u32
     ensures { λ r. ⌜ ViewDecoded keyView (now (bytes .entry)) (now (fields .entry)) r (now (fields .exit)) ⌝ }
 {
-    crate::view::show_pair(FenceCookieKey::decode(bytes).number, bytes, fields)
+    let read = FenceCookieKey::decode(bytes).number;
+    let number = crate::view::decode_number(read, fields, FenceCookieKey::LEN);
+    if number == 0 {
+        crate::view::carry(bytes, 0, fields, 0);
+        crate::view::carry(bytes, 8, fields, 8);
+    }
+    number
 }
 
-// From fields to bytes.
+// From fields to bytes. The decoder is tried on the bytes that they give.
 #[no_mangle]
 pub extern "C" fn threadwicket_key_encode(fields: &[u8], bytes: &mut [u8]) -> u32
     ensures { λ r. ⌜ ViewEncoded keyView (now (fields .entry)) (now (bytes .entry)) r (now (bytes .exit)) ⌝ }
 {
-    crate::view::store_pair(refusal(fields), fields, bytes)
+    if fields.len() != FenceCookieKey::LEN {
+        return 1;
+    }
+    let mut trial = [0u8; 16];
+    write(fields, &mut trial);
+    if FenceCookieKey::decode(&trial).number != 0 {
+        return 3;
+    }
+    crate::view::store(&trial, bytes)
 }

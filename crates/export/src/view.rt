@@ -1,12 +1,12 @@
 // What the views of the records share: the answers of a decoder into an image and of an encoder from one, and numbers moved between a
 // record's bytes and its fields.
-ghost use Rattle.octets.specs.Words.{_+_, _*_, _≤_, _≡_, cond, length, eqb};
+ghost use Rattle.octets.specs.Words.{_≤_, _≡_, _++_, length, drop};
 ghost use Rattle.octets.specs.Octets.{octetsAt, le, put, leBytes};
-ghost use Rattle.codec.specs.Codec.{roomAnswer};
+ghost use Rattle.codec.specs.Codec.{roomAnswer, written};
 ghost use Rattle.codec.specs.Head.{headLayout, headFields};
 ghost use Rattle.codec.specs.Inner.Stores.{puts};
 ghost use Rattle.export.specs.View.{cleared};
-ghost use Rattle.export.specs.Inner.Steps.{imageCleared, Shown, Stored, copied, controlShown, controlStored};
+ghost use Rattle.export.specs.Inner.Steps.{imageCleared};
 
 // Zeros in the first n bytes of a slice that has so many.
 fn clear(d: &mut [u8], n: usize)
@@ -34,27 +34,34 @@ pub(crate) fn decode_number(read: u32, fields: &mut [u8], n: usize) -> u32
     codec::room_number(0, n, fields.len())
 }
 
-// What is answered of fields whose bytes a decoder was tried on: 3 where it refused them.
-pub(crate) fn trial_number(read: u32) -> u32
-    ensures { λ r. ⌜ r ≡ cond (eqb read 0) 0 3 ⌝ }
+// A record's bytes at the start of a slice that has room for them.
+fn put_record(out: &mut [u8], bytes: &[u8])
+    requires { ⌜ length (now bytes) ≤ length (now out) ⌝ }
+    ensures { λ r. ⌜ now (out .exit) ≡ now (bytes .entry) ++ drop (length (now (bytes .entry))) (now (out .entry)) ⌝ }
 {
-    if read == 0 { 0 } else { 3 }
+    let mut i = 0;
+    while i < bytes.len() {
+        out[i] = bytes[i];
+        i += 1;
+    }
 }
 
-// n numbers of eight bytes, from the place i of one slice to the place j of another.
-pub(crate) fn copy(s: &[u8], i: usize, d: &mut [u8], j: usize, n: usize)
-    requires { ⌜ (i + 8 * n ≤ 128) × (j + 8 * n ≤ 128) ⌝ }
-    ensures { λ r. ⌜ now (d .exit) ≡ copied n (now (s .entry)) i (now (d .entry)) j ⌝ }
+// What is answered of room for a record's bytes: 4 where there is too little, else 0, and they stand at the start of `out`.
+pub(crate) fn store(bytes: &[u8], out: &mut [u8]) -> u32
+    ensures { λ r. ⌜ (r ≡ roomAnswer 0 (length (now (bytes .entry))) (length (now (out .entry)))) × (now (out .exit) ≡ written r (now (bytes .entry)) (now (out .entry))) ⌝ }
 {
-    let mut p = i;
-    let mut q = j;
-    let mut left = n;
-    while left != 0 {
-        octets::put_u64_le(d, q, octets::get_u64_le(s, p));
-        p += 8;
-        q += 8;
-        left -= 1;
+    if out.len() < bytes.len() {
+        return 4;
     }
+    put_record(out, bytes);
+    0
+}
+
+// A number of eight bytes, from a place of one slice to a place of another.
+pub(crate) fn carry(s: &[u8], i: usize, d: &mut [u8], j: usize)
+    ensures { λ r. ⌜ now (d .exit) ≡ put (now (d .entry)) j (leBytes 8 (le (octetsAt (now (s .entry)) i 8))) ⌝ }
+{
+    octets::put_u64_le(d, j, octets::get_u64_le(s, i));
 }
 
 // A number of one byte as one of eight.
@@ -83,59 +90,4 @@ pub(crate) fn write_head(fields: &[u8], out: &mut [u8], mark: u32, version: u16)
 {
     let byte = (octets::get_u64_le(fields, 0) % 256) as u8;
     codec::put_head(out, mark, version, byte);
-}
-
-// A record of four zeros, a control word and n numbers: its bytes from its fields.
-pub(crate) fn write_control(fields: &[u8], out: &mut [u8], n: usize)
-    requires { ⌜ n ≤ 4 ⌝ }
-    ensures { λ r. ⌜ now (out .exit) ≡ controlStored n (now (fields .entry)) (now (out .entry)) ⌝ }
-{
-    octets::put_u32_le(out, 0, 0);
-    narrow_four(fields, 0, out, 4);
-    copy(fields, 8, out, 8, n);
-}
-
-// The answer of its decoder into an image, and of its encoder from one.
-pub(crate) fn show_control(read: u32, bytes: &[u8], fields: &mut [u8], n: usize) -> u32
-    requires { ⌜ n ≤ 4 ⌝ }
-    ensures { λ r. ⌜ Shown read (8 + 8 * n) (controlShown n (now (bytes .entry)) (now (fields .entry))) (now (fields .entry)) r (now (fields .exit)) ⌝ }
-{
-    let number = decode_number(read, fields, 8 + 8 * n);
-    if number == 0 {
-        widen_four(bytes, 4, fields, 0);
-        copy(bytes, 8, fields, 8, n);
-    }
-    number
-}
-
-pub(crate) fn store_control(refusal: u32, fields: &[u8], out: &mut [u8], n: usize) -> u32
-    requires { ⌜ n ≤ 4 ⌝ }
-    ensures { λ r. ⌜ Stored refusal (8 + 8 * n) (controlStored n (now (fields .entry)) (now (out .entry))) (now (out .entry)) r (now (out .exit)) ⌝ }
-{
-    let number = codec::room_number(refusal, 8 + 8 * n, out.len());
-    if number == 0 {
-        write_control(fields, out, n);
-    }
-    number
-}
-
-// The same of a record of two numbers, whose fields are its bytes.
-pub(crate) fn show_pair(read: u32, bytes: &[u8], fields: &mut [u8]) -> u32
-    ensures { λ r. ⌜ Shown read 16 (copied 2 (now (bytes .entry)) 0 (now (fields .entry)) 0) (now (fields .entry)) r (now (fields .exit)) ⌝ }
-{
-    let number = decode_number(read, fields, 16);
-    if number == 0 {
-        copy(bytes, 0, fields, 0, 2);
-    }
-    number
-}
-
-pub(crate) fn store_pair(refusal: u32, fields: &[u8], out: &mut [u8]) -> u32
-    ensures { λ r. ⌜ Stored refusal 16 (copied 2 (now (fields .entry)) 0 (now (out .entry)) 0) (now (out .entry)) r (now (out .exit)) ⌝ }
-{
-    let number = codec::room_number(refusal, 16, out.len());
-    if number == 0 {
-        copy(fields, 0, out, 0, 2);
-    }
-    number
 }

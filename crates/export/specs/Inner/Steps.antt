@@ -1,7 +1,6 @@
--- What the functions inside a view are held to: the answer for an image or for a record's bytes, and a layout stored field by field.
+-- What the functions inside a view are held to: the answer for an image, and a layout stored field by field.
 -- Assumes nothing.
-use Rattle.octets.specs.Words.{ℕ, zero, suc, _+_, _≡_, cond, List, length, eqb}
-use Rattle.octets.specs.Octets.{octetsAt, le, leBytes, put}
+use Rattle.octets.specs.Words.{ℕ, _≡_, cond, List, length, eqb}
 use Rattle.codec.specs.Layout.{fieldsAt}
 use Rattle.codec.specs.Inner.Stores.{puts}
 use Rattle.codec.specs.Codec.{roomAnswer}
@@ -16,11 +15,6 @@ pub record Shown (read n : ℕ) (there out : List ℕ) (m : ℕ) (out′ : List 
   pub number : m ≡ roomAnswer read n (length out)
   pub output : out′ ≡ cond (eqb read 0) (cond (eqb m 0) there out) (cleared n out)
 
--- The answer m for a record's n octets, by the refusal of its image.
-pub record Stored (refusal n : ℕ) (there out : List ℕ) (m : ℕ) (out′ : List ℕ) : Type 0 where
-  pub number : m ≡ roomAnswer refusal n (length out)
-  pub output : out′ ≡ cond (eqb m 0) there out
-
 -- d with the own numbers of the bytes s as an image at the start
 abbrev pub shown : {R : Type 0} → View R → List ℕ → List ℕ → List ℕ
 shown W s d = puts (wide (W .slots)) (pick (W .slots) (fieldsAt (W .codec .layout) s 0)) d 0
@@ -28,15 +22,3 @@ shown W s d = puts (wide (W .slots)) (pick (W .slots) (fieldsAt (W .codec .layou
 -- d with the numbers that an image f gives, as the record's layout has them
 abbrev pub stored : {R : Type 0} → View R → List ℕ → List ℕ → List ℕ
 stored W f d = puts (W .codec .layout) (numbers W f) d 0
-
--- d with n numbers of eight octets from the place j on: those that stand in s from the place i on
-abbrev pub copied : ℕ → List ℕ → ℕ → List ℕ → ℕ → List ℕ
-copied zero s i d j = d
-copied (suc n) s i d j = copied n s (i + 8) (put d j (leBytes 8 (le (octetsAt s i 8)))) (j + 8)
-
--- a record of four zeros, a control word and n numbers of eight octets: d with its own numbers, and d with its bytes
-abbrev pub controlShown : ℕ → List ℕ → List ℕ → List ℕ
-controlShown n s d = copied n s 8 (put d 0 (leBytes 8 (le (octetsAt s 4 4)))) 8
-
-abbrev pub controlStored : ℕ → List ℕ → List ℕ → List ℕ
-controlStored n f d = copied n f 8 (put (put d 0 (leBytes 4 0)) 4 (leBytes 4 (le (octetsAt f 0 8)))) 8
