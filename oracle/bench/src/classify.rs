@@ -1,21 +1,13 @@
 //! The classifier: the proved one and the original, on packets that each end at another place of 01's reading.
 
 use crate::Case;
-use opc_egress_fence_common::{classify_l3_udp_source, PacketEndpointDisposition, ProtectedEndpoint};
+use original::original_classify;
 use std::hint::black_box;
+
+type Classify = unsafe extern "C" fn(*const u8, usize, u8, *const [u8; 16], u16) -> u32;
 
 extern "C" {
     fn threadwicket_classify(packet: *const u8, len: usize, family: u8, address: *const [u8; 16], port: u16) -> u32;
-}
-
-/// The original, as a program that links it would call it: the endpoint is made beforehand. It counts no headers.
-#[inline(never)]
-fn original_classify(packet: &[u8], endpoint: ProtectedEndpoint) -> u32 {
-    match classify_l3_udp_source(packet, endpoint) {
-        PacketEndpointDisposition::Protected => 0,
-        PacketEndpointDisposition::Unrelated => 1,
-        PacketEndpointDisposition::Indeterminate => 2,
-    }
 }
 
 /// 01's packet A.
@@ -45,20 +37,16 @@ fn altered(mut packet: Vec<u8>, place: usize, byte: u8) -> Vec<u8> {
 
 fn case(name: &'static str, family: u8, packet: Vec<u8>) -> Case {
     let address: &'static [u8; 16] = if family == 4 { &IPV4 } else { &IPV6 };
-    let endpoint = match family {
-        4 => ProtectedEndpoint::ipv4([192, 0, 2, 10], 4500),
-        _ => ProtectedEndpoint::ipv6(IPV6, 4500),
-    };
-    let endpoint = endpoint.expect("the endpoint is sound");
     let packet: &'static [u8] = packet.leak();
     // the answers are compared by their dispositions alone
+    let side = |classify: Classify| -> Box<dyn Fn() -> u32> {
+        Box::new(move || unsafe { black_box(classify)(packet.as_ptr(), packet.len(), family, address, 4500) & 0xff })
+    };
     Case {
         name,
         calls: 100_000,
-        proved: Box::new(move || unsafe {
-            threadwicket_classify(black_box(packet.as_ptr()), packet.len(), family, address, 4500) & 0xff
-        }),
-        rust: Box::new(move || original_classify(black_box(packet), endpoint) & 0xff),
+        proved: side(threadwicket_classify),
+        rust: side(original_classify),
     }
 }
 

@@ -5,6 +5,24 @@ use crate::Case;
 use opc_egress_fence_common::*;
 use plain::{gate, Call, Socket};
 use std::hint::black_box;
+use std::slice::from_raw_parts;
+
+type Gate = unsafe extern "C" fn(
+    config: *const u8,
+    config_len: usize,
+    attachment: u64,
+    family: u8,
+    address: *const [u8; 16],
+    port: u16,
+    packet: *const u8,
+    packet_len: usize,
+    cookie: u64,
+    current: *const u8,
+    current_len: usize,
+    table: *const u8,
+    table_len: usize,
+    now: u64,
+) -> u32;
 
 extern "C" {
     #[allow(clippy::too_many_arguments)]
@@ -26,15 +44,49 @@ extern "C" {
     ) -> u32;
 }
 
-/// The verdict's slot, or 255 where it has none. The plain gate counts no headers.
+/// The plain gate behind the same shape: the verdict's slot, or 255 where it has none. It counts no headers.
+///
+/// # Safety
+/// Each pointer is valid for its length, and the address's for sixteen bytes.
+#[allow(clippy::too_many_arguments)]
 #[inline(never)]
-fn plain_gate(call: &Call) -> u32 {
-    gate(call).verdict.counter_slot().unwrap_or(255)
+unsafe extern "C" fn plain_gate(
+    config: *const u8,
+    config_len: usize,
+    attachment: u64,
+    family: u8,
+    address: *const [u8; 16],
+    port: u16,
+    packet: *const u8,
+    packet_len: usize,
+    cookie: u64,
+    current: *const u8,
+    current_len: usize,
+    table: *const u8,
+    table_len: usize,
+    now: u64,
+) -> u32 {
+    let call = Call {
+        config: from_raw_parts(config, config_len),
+        attachment,
+        socket: Socket {
+            family,
+            address: *address,
+            port,
+        },
+        packet: from_raw_parts(packet, packet_len),
+        cookie,
+        current: from_raw_parts(current, current_len),
+        table: from_raw_parts(table, table_len),
+        now,
+    };
+    gate(&call).verdict.counter_slot().unwrap_or(255)
 }
 
-fn proved_gate(call: &Call) -> u32 {
+/// The answers are compared by their verdicts alone.
+fn asked(gate: Gate, call: &Call) -> u32 {
     let answer = unsafe {
-        threadwicket_gate(
+        gate(
             call.config.as_ptr(),
             call.config.len(),
             call.attachment,
@@ -73,7 +125,7 @@ fn table(records: usize, own: Option<usize>) -> Vec<u8> {
         .collect()
 }
 
-fn case(name: &'static str, table: Vec<u8>, packet: Vec<u8>, bound: bool) -> Case {
+fn case(name: &'static str, attachment: u64, table: Vec<u8>, packet: Vec<u8>, bound: bool) -> Case {
     let endpoint = ProtectedEndpoint::ipv4([192, 0, 2, 10], 4500).expect("the endpoint is sound");
     let config = FenceConfig::new(endpoint, 7, 4096)
         .expect("the configuration is sound")
@@ -100,7 +152,7 @@ fn case(name: &'static str, table: Vec<u8>, packet: Vec<u8>, bound: bool) -> Cas
     };
     let call: &'static Call = Box::leak(Box::new(Call {
         config,
-        attachment: 7,
+        attachment,
         socket,
         packet: packet.leak(),
         cookie: 9,
@@ -113,8 +165,8 @@ fn case(name: &'static str, table: Vec<u8>, packet: Vec<u8>, bound: bool) -> Cas
     Case {
         name,
         calls,
-        proved: Box::new(move || proved_gate(black_box(call))),
-        rust: Box::new(move || plain_gate(black_box(call))),
+        proved: Box::new(move || asked(black_box(threadwicket_gate), call)),
+        rust: Box::new(move || asked(black_box(plain_gate), call)),
     }
 }
 
@@ -124,16 +176,24 @@ pub fn cases() -> Vec<Case> {
         packet
     };
     vec![
-        case("gate: 4,096 records, match last", table(4096, Some(4095)), A.to_vec(), false),
-        case("gate: 4,096 records, match first", table(4096, Some(0)), A.to_vec(), false),
-        case("gate: 4,096 records, no match", table(4096, None), A.to_vec(), false),
-        case("gate: empty table", vec![], A.to_vec(), false),
+        case(
+            "gate: 4,096 records, match last",
+            7,
+            table(4096, Some(4095)),
+            A.to_vec(),
+            false,
+        ),
+        case("gate: 4,096 records, match first", 7, table(4096, Some(0)), A.to_vec(), false),
+        case("gate: 4,096 records, no match", 7, table(4096, None), A.to_vec(), false),
+        case("gate: empty table", 7, vec![], A.to_vec(), false),
         case(
             "gate: one record, socket bound to the endpoint",
+            7,
             table(1, Some(0)),
             A.to_vec(),
             true,
         ),
-        case("gate: unrelated source", table(1, Some(0)), other(A.to_vec()), false),
+        case("gate: attached elsewhere", 8, table(1, Some(0)), A.to_vec(), false),
+        case("gate: unrelated source", 7, table(1, Some(0)), other(A.to_vec()), false),
     ]
 }

@@ -5,10 +5,11 @@
 //!     bench bundles           the bundles for the judge, by number
 //!     bench bundle N          writes a bundle
 //!
-//! `oracle/bench/run` counts the instructions of so many calls by callgrind, as the difference of two runs.
+//! `oracle/bench/run` counts the instructions of so many calls, as the difference of two runs.
 
 mod bundles;
 mod classify;
+mod codecs;
 mod gate;
 
 use std::hint::black_box;
@@ -24,7 +25,11 @@ pub struct Case {
 }
 
 fn cases() -> Vec<Case> {
-    classify::cases().into_iter().chain(gate::cases()).collect()
+    classify::cases()
+        .into_iter()
+        .chain(gate::cases())
+        .chain(codecs::cases())
+        .collect()
 }
 
 fn list(cases: &[Case]) -> ExitCode {

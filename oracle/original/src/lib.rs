@@ -12,7 +12,11 @@ fn clear(fields: &mut [u8], n: usize) {
 
 /// From bytes to fields, as every `threadwicket_NAME_decode`: 1 for another length, 2 where the original takes none, 4 without room, else 0.
 #[inline(always)]
-fn decoded<const LEN: usize, const N: usize>(bytes: &[u8], fields: &mut [u8], read: impl Fn(&[u8; LEN]) -> Option<[u64; N]>) -> u32 {
+fn decoded<const LEN: usize, const N: usize>(
+    bytes: &[u8],
+    fields: &mut [u8],
+    read: impl Fn(&[u8; LEN]) -> Option<[u64; N]>,
+) -> u32 {
     let Ok(bytes) = <&[u8; LEN]>::try_from(bytes) else {
         clear(fields, 8 * N);
         return 1;
@@ -57,7 +61,11 @@ fn current_fields(current: CurrentFenceToken) -> [u64; 3] {
         (_, true) => CURRENT_RETIREMENT_CLOSED_CONTROL,
         _ => 0,
     };
-    [control.into(), current.durable_fence_token(), current.registered_socket_cookie()]
+    [
+        control.into(),
+        current.durable_fence_token(),
+        current.registered_socket_cookie(),
+    ]
 }
 
 fn current_of([control, token, cookie]: [u64; 3]) -> Option<CurrentFenceToken> {
@@ -81,12 +89,19 @@ fn entry_fields(entry: FenceEntry) -> [u64; 4] {
         FenceEntryState::TerminalClosed => COOKIE_CONTROL_TERMINAL_CLOSED,
         FenceEntryState::Reclaiming => COOKIE_CONTROL_RECLAIMING,
     };
-    [control.into(), entry.durable_fence_token(), entry.deadline_boot_ns(), entry.control_epoch()]
+    [
+        control.into(),
+        entry.durable_fence_token(),
+        entry.deadline_boot_ns(),
+        entry.control_epoch(),
+    ]
 }
 
 fn entry_of([control, token, deadline, epoch]: [u64; 4]) -> Option<FenceEntry> {
     match u32::try_from(control).ok()? {
-        COOKIE_CONTROL_INITIAL_CLOSED if deadline == 0 && epoch == EGRESS_FENCE_INITIAL_COOKIE_EPOCH => FenceEntry::initial_closed(token),
+        COOKIE_CONTROL_INITIAL_CLOSED if deadline == 0 && epoch == EGRESS_FENCE_INITIAL_COOKIE_EPOCH => {
+            FenceEntry::initial_closed(token)
+        }
         COOKIE_CONTROL_ACTIVE => FenceEntry::active(token, deadline, epoch),
         COOKIE_CONTROL_TERMINAL_CLOSED if deadline == 0 => FenceEntry::terminal_closed(token, epoch),
         COOKIE_CONTROL_RECLAIMING if deadline == 0 => FenceEntry::reclaiming(token, epoch),
@@ -100,7 +115,10 @@ fn value_fields(value: FenceCookieValue) -> [u64; 5] {
 }
 
 fn value_of([control, cookie, token, deadline, epoch]: [u64; 5]) -> Option<FenceCookieValue> {
-    FenceCookieValue::new(FenceCookieKey::new(cookie, token)?, entry_of([control, token, deadline, epoch])?)
+    FenceCookieValue::new(
+        FenceCookieKey::new(cookie, token)?,
+        entry_of([control, token, deadline, epoch])?,
+    )
 }
 
 fn config_fields(config: FenceConfig) -> [u64; 6] {
@@ -116,7 +134,14 @@ fn config_fields(config: FenceConfig) -> [u64; 6] {
         }
     };
     let half = |at: usize| u64::from_le_bytes(address[at..at + 8].try_into().expect("eight bytes"));
-    [family, config.endpoint().port().into(), config.capacity().into(), config.root_cgroup_id(), half(0), half(8)]
+    [
+        family,
+        config.endpoint().port().into(),
+        config.capacity().into(),
+        config.root_cgroup_id(),
+        half(0),
+        half(8),
+    ]
 }
 
 fn config_of([family, port, capacity, root, first, second]: [u64; 6]) -> Option<FenceConfig> {
@@ -155,6 +180,45 @@ fn inspection_of(numbers: [u64; 11]) -> Option<FenceInspection> {
     Some(FenceInspection::new(current, mutation, entry))
 }
 
+/// The classifier on an endpoint of any family: 0 Protected, 1 Unrelated, 2 Indeterminate. It counts no headers.
+///
+/// # Safety
+/// The packet's pointer is valid for its length, and the address's for sixteen bytes.
+#[inline(never)]
+pub unsafe extern "C" fn original_classify(
+    packet: *const u8,
+    packet_len: usize,
+    family: u8,
+    address: *const [u8; 16],
+    port: u16,
+) -> u32 {
+    let address = *address;
+    let endpoint = match family {
+        4 => ProtectedEndpoint::Ipv4 {
+            address: [address[0], address[1], address[2], address[3]],
+            port,
+        },
+        6 => ProtectedEndpoint::Ipv6 { address, port },
+        _ => return 2,
+    };
+    match classify_l3_udp_source(std::slice::from_raw_parts(packet, packet_len), endpoint) {
+        PacketEndpointDisposition::Protected => 0,
+        PacketEndpointDisposition::Unrelated => 1,
+        PacketEndpointDisposition::Indeterminate => 2,
+    }
+}
+
+/// The deadline check: 0 PriorExpired, 1 RequestedDeadlineInvalid, 2 DeadlineRegressed, 3 Apply.
+#[inline(never)]
+pub extern "C" fn original_refresh(observed: u64, prior: u64, requested: u64) -> u32 {
+    match evaluate_refresh_deadlines(observed, prior, requested) {
+        RefreshDeadlineDecision::PriorExpired => 0,
+        RefreshDeadlineDecision::RequestedDeadlineInvalid => 1,
+        RefreshDeadlineDecision::DeadlineRegressed => 2,
+        RefreshDeadlineDecision::Apply => 3,
+    }
+}
+
 /// The two functions of a record.
 macro_rules! record {
     ($decode:ident, $encode:ident, $record:ty, $fields:expr, $of:expr) => {
@@ -162,7 +226,10 @@ macro_rules! record {
         /// Both pointers are valid for their lengths and do not overlap.
         #[inline(never)]
         pub unsafe extern "C" fn $decode(bytes: *const u8, bytes_len: usize, fields: *mut u8, fields_len: usize) -> u32 {
-            let (bytes, fields) = (std::slice::from_raw_parts(bytes, bytes_len), std::slice::from_raw_parts_mut(fields, fields_len));
+            let (bytes, fields) = (
+                std::slice::from_raw_parts(bytes, bytes_len),
+                std::slice::from_raw_parts_mut(fields, fields_len),
+            );
             decoded(bytes, fields, |bytes| <$record>::decode(bytes).map($fields))
         }
 
@@ -170,16 +237,29 @@ macro_rules! record {
         /// Both pointers are valid for their lengths and do not overlap.
         #[inline(never)]
         pub unsafe extern "C" fn $encode(fields: *const u8, fields_len: usize, bytes: *mut u8, bytes_len: usize) -> u32 {
-            let (fields, bytes) = (std::slice::from_raw_parts(fields, fields_len), std::slice::from_raw_parts_mut(bytes, bytes_len));
+            let (fields, bytes) = (
+                std::slice::from_raw_parts(fields, fields_len),
+                std::slice::from_raw_parts_mut(bytes, bytes_len),
+            );
             encoded(fields, bytes, |numbers| $of(numbers).map(<$record>::encode))
         }
     };
 }
 
-record!(original_current_decode, original_current_encode, CurrentFenceToken, current_fields, current_of);
-record!(original_mutation_decode, original_mutation_encode, FenceMutationAuthority, mutation_fields, |[generation, claim]: [u64; 2]| {
-    FenceMutationAuthority::new(generation, claim)
-});
+record!(
+    original_current_decode,
+    original_current_encode,
+    CurrentFenceToken,
+    current_fields,
+    current_of
+);
+record!(
+    original_mutation_decode,
+    original_mutation_encode,
+    FenceMutationAuthority,
+    mutation_fields,
+    |[generation, claim]: [u64; 2]| { FenceMutationAuthority::new(generation, claim) }
+);
 record!(
     original_key_decode,
     original_key_encode,
@@ -187,7 +267,31 @@ record!(
     |key: FenceCookieKey| [key.socket_cookie(), key.durable_fence_token()],
     |[cookie, token]: [u64; 2]| FenceCookieKey::new(cookie, token)
 );
-record!(original_entry_decode, original_entry_encode, FenceEntry, entry_fields, entry_of);
-record!(original_cookie_value_decode, original_cookie_value_encode, FenceCookieValue, value_fields, value_of);
-record!(original_config_decode, original_config_encode, FenceConfig, config_fields, config_of);
-record!(original_inspection_decode, original_inspection_encode, FenceInspection, inspection_fields, inspection_of);
+record!(
+    original_entry_decode,
+    original_entry_encode,
+    FenceEntry,
+    entry_fields,
+    entry_of
+);
+record!(
+    original_cookie_value_decode,
+    original_cookie_value_encode,
+    FenceCookieValue,
+    value_fields,
+    value_of
+);
+record!(
+    original_config_decode,
+    original_config_encode,
+    FenceConfig,
+    config_fields,
+    config_of
+);
+record!(
+    original_inspection_decode,
+    original_inspection_encode,
+    FenceInspection,
+    inspection_fields,
+    inspection_of
+);
