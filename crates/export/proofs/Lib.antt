@@ -6,3 +6,4 @@ pub mod RoundLaws
 pub mod RoundTrips
 pub mod UniqueLaws
 pub mod Unique
+pub mod LentLaws

@@ -4,10 +4,18 @@ use crate::Case;
 use original::original_classify;
 use std::hint::black_box;
 
-type Classify = unsafe extern "C" fn(*const u8, usize, u8, *const [u8; 16], u16) -> u32;
+type Classify = unsafe extern "C" fn(*const u8, usize, u8, *const [u8; 16], u16, *mut u8, usize) -> u32;
 
 extern "C" {
-    fn threadwicket_classify(packet: *const u8, len: usize, family: u8, address: *const [u8; 16], port: u16) -> u32;
+    fn threadwicket_classify_raw(
+        packet: *const u8,
+        packet_len: usize,
+        family: u8,
+        address: *const [u8; 16],
+        port: u16,
+        reading: *mut u8,
+        reading_len: usize,
+    ) -> u32;
 }
 
 /// 01's packet A.
@@ -38,14 +46,15 @@ fn altered(mut packet: Vec<u8>, place: usize, byte: u8) -> Vec<u8> {
 fn case(name: &'static str, family: u8, packet: Vec<u8>) -> Case {
     let address: &'static [u8; 16] = if family == 4 { &IPV4 } else { &IPV6 };
     let packet: &'static [u8] = packet.leak();
-    // the answers are compared by their dispositions alone
     let side = |classify: Classify| -> Box<dyn Fn() -> u32> {
-        Box::new(move || unsafe { black_box(classify)(packet.as_ptr(), packet.len(), family, address, 4500) & 0xff })
+        let reading: &'static mut [u8] = vec![0; 8].leak();
+        let reading = reading.as_mut_ptr();
+        Box::new(move || unsafe { black_box(classify)(packet.as_ptr(), packet.len(), family, address, 4500, reading, 8) })
     };
     Case {
         name,
         calls: 100_000,
-        proved: side(threadwicket_classify),
+        proved: side(threadwicket_classify_raw),
         rust: side(original_classify),
     }
 }

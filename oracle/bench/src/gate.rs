@@ -5,7 +5,7 @@ use crate::Case;
 use opc_egress_fence_common::*;
 use plain::{gate, Call, Socket};
 use std::hint::black_box;
-use std::slice::from_raw_parts;
+use std::slice::{from_raw_parts, from_raw_parts_mut};
 
 type Gate = unsafe extern "C" fn(
     config: *const u8,
@@ -22,11 +22,13 @@ type Gate = unsafe extern "C" fn(
     table: *const u8,
     table_len: usize,
     now: u64,
+    reading: *mut u8,
+    reading_len: usize,
 ) -> u32;
 
 extern "C" {
     #[allow(clippy::too_many_arguments)]
-    fn threadwicket_gate(
+    fn threadwicket_gate_raw(
         config: *const u8,
         config_len: usize,
         attachment: u64,
@@ -41,10 +43,12 @@ extern "C" {
         table: *const u8,
         table_len: usize,
         now: u64,
+        reading: *mut u8,
+        reading_len: usize,
     ) -> u32;
 }
 
-/// The plain gate behind the same shape: the verdict's slot, or 255 where it has none. It counts no headers.
+/// The plain gate behind the same shape: the verdict's slot, or 255 where it has none; 256 without room for the reading. It counts no headers.
 ///
 /// # Safety
 /// Each pointer is valid for its length, and the address's for sixteen bytes.
@@ -65,7 +69,12 @@ unsafe extern "C" fn plain_gate(
     table: *const u8,
     table_len: usize,
     now: u64,
+    reading: *mut u8,
+    reading_len: usize,
 ) -> u32 {
+    if !original::put_reading(from_raw_parts_mut(reading, reading_len)) {
+        return 256;
+    }
     let call = Call {
         config: from_raw_parts(config, config_len),
         attachment,
@@ -83,9 +92,9 @@ unsafe extern "C" fn plain_gate(
     gate(&call).verdict.counter_slot().unwrap_or(255)
 }
 
-/// The answers are compared by their verdicts alone.
 fn asked(gate: Gate, call: &Call) -> u32 {
-    let answer = unsafe {
+    let mut reading = [0; 8];
+    unsafe {
         gate(
             call.config.as_ptr(),
             call.config.len(),
@@ -101,9 +110,10 @@ fn asked(gate: Gate, call: &Call) -> u32 {
             call.table.as_ptr(),
             call.table.len(),
             call.now,
+            reading.as_mut_ptr(),
+            reading.len(),
         )
-    };
-    answer & 0xff
+    }
 }
 
 pub fn value(cookie: u64, deadline: u64) -> [u8; 40] {
@@ -165,7 +175,7 @@ fn case(name: &'static str, attachment: u64, table: Vec<u8>, packet: Vec<u8>, bo
     Case {
         name,
         calls,
-        proved: Box::new(move || asked(black_box(threadwicket_gate), call)),
+        proved: Box::new(move || asked(black_box(threadwicket_gate_raw), call)),
         rust: Box::new(move || asked(black_box(plain_gate), call)),
     }
 }

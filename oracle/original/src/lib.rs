@@ -180,10 +180,22 @@ fn inspection_of(numbers: [u64; 11]) -> Option<FenceInspection> {
     Some(FenceInspection::new(current, mutation, entry))
 }
 
-/// The classifier on an endpoint of any family: 0 Protected, 1 Unrelated, 2 Indeterminate. It counts no headers.
+/// A reading of eight bytes, where there is room for it. The original counts no headers: it is 0.
+#[inline(always)]
+pub fn put_reading(reading: &mut [u8]) -> bool {
+    match reading.get_mut(..8) {
+        Some(room) => {
+            room.copy_from_slice(&0u64.to_le_bytes());
+            true
+        }
+        None => false,
+    }
+}
+
+/// The classifier on an endpoint of any family: 0 Protected, 1 Unrelated, 2 Indeterminate; 256 without room for the reading.
 ///
 /// # Safety
-/// The packet's pointer is valid for its length, and the address's for sixteen bytes.
+/// The pointers are valid for their lengths, and the address's for sixteen bytes.
 #[inline(never)]
 pub unsafe extern "C" fn original_classify(
     packet: *const u8,
@@ -191,7 +203,12 @@ pub unsafe extern "C" fn original_classify(
     family: u8,
     address: *const [u8; 16],
     port: u16,
+    reading: *mut u8,
+    reading_len: usize,
 ) -> u32 {
+    if !put_reading(std::slice::from_raw_parts_mut(reading, reading_len)) {
+        return 256;
+    }
     let address = *address;
     let endpoint = match family {
         4 => ProtectedEndpoint::Ipv4 {
