@@ -210,10 +210,13 @@ impl FenceConfig {
     pub fn encode(self, out: &mut [u8]) -> u32
         ensures { λ r. ⌜ Encoded configCodec self (now (out .entry)) r (now (out .exit)) ⌝ }
     {
-        let number = codec::encode_number(self.is_sound(), FenceConfig::LEN, out.len());
-        if number == 0 {
-            self.write(out);
+        if !self.is_sound() {
+            return 3;
         }
-        number
+        if out.len() < FenceConfig::LEN {
+            return 4;
+        }
+        self.write(out);
+        0
     }
 }

@@ -11,7 +11,7 @@ use Rattle.octets.specs.Octets.{Bytes, octetsAt, le}
 use Rattle.octets.proofs.OctetsLaws.{length-octets, le-below, Bytes-octets, pow-pos}
 use Rattle.codec.specs.Layout.{Field, width, size, fieldsAt, laid, Fit}
 use Rattle.codec.specs.Inner.Stores.{puts}
-use Rattle.codec.specs.Codec.{Codec, ok, decodeNumber, decodeValue, roomAnswer, unsoundNumber, written}
+use Rattle.codec.specs.Codec.{Codec, ok, decodeNumber, decodeValue, roomAnswer, unsoundNumber, written, bytes, encodeNumber, Encoded}
 use Rattle.codec.proofs.LayoutLaws.{fields-laid, length-laid, puts-laid, put-laid, fit-fields, length-fields, laid-fields}
 use Rattle.codec.proofs.CodecLaws.{Lawful, accepted-ok, room-done, written-refused}
 use Rattle.export.specs.View.{Slot, own, fixed, View, pick, spread, wide, fitting, imageSize, image, viewDecodeNumber, viewDecodeOut, numbers, cleared, soundImage, imageRefusal, viewEncodeNumber, viewEncodeOut, ViewDecoded, ViewEncoded}
@@ -150,6 +150,19 @@ module _ {R : Type 0} (W : View R) (f : List ℕ) {out : List ℕ} where
   pub refused-wide : length f ≡ imageSize W → fitting (W .codec .layout) (numbers W f) ≡ false → ViewEncoded W f out 3 out
   unfolding imageRefusal soundImage
   refused-wide e h = refused (simp (eq-eqb _ _ e, h)) (λ e. omega arith)
+
+-- the record's own encoder, on the record whose numbers the image gives
+pub by-record : {R : Type 0} (W : View R) (f : List ℕ) {v : R} {out out′ : List ℕ} {m : ℕ} → length f ≡ imageSize W → fitting (W .codec .layout) (numbers W f) ≡ true →
+    W .codec .fields v ≡ numbers W f → Encoded (W .codec) v out m out′ → ViewEncoded W f out m out′
+unfolding viewEncodeNumber viewEncodeOut imageRefusal soundImage
+by-record W f {v} {out} {out′} {m} long fits same e =
+    let refusal : unsoundNumber (ok (W .codec) (W .codec .fields v)) ≡ imageRefusal W f = rw same (simp (eq-eqb _ _ long, fits)) in
+    let same-number : encodeNumber (W .codec) v out ≡ viewEncodeNumber W f out = ap (λ (k : ℕ). roomAnswer k (size (W .codec .layout)) (length out)) refusal in
+    record {
+      number = e .number ∙ same-number;
+      output = e .output ∙ ap (λ (k : ℕ). written k (bytes (W .codec) v) out) same-number
+          ∙ ap (λ (vs : List ℕ). written (viewEncodeNumber W f out) (laid (W .codec .layout) vs) out) same;
+    }
 
 -- bytes that were put into zeros, and tried: n is the decoder's number
 module _ {R : Type 0} {W : View R} {Formed : R → Type 0} (L : Viewable W Formed) (f : List ℕ) {n : ℕ} {trial : List ℕ}

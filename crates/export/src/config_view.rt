@@ -1,9 +1,11 @@
 // The configuration for programs in other languages. Its fields: family, port, capacity, root cgroup, and the sixteen bytes of the address.
 use config::FenceConfig;
-ghost use Rattle.octets.specs.Words.{_≡_};
+use endpoint::ProtectedEndpoint;
+use units::RootCgroupId;
+ghost use Rattle.octets.specs.Words.{_≡_, true};
+ghost use Rattle.octets.specs.Octets.{octetsAt};
 ghost use Rattle.export.specs.View.{fitting, numbers, ViewDecoded, ViewEncoded};
 ghost use Rattle.export.specs.Views.{configView};
-ghost use Rattle.export.specs.Inner.Steps.{stored};
 
 // The length of the fields.
 const FIELDS: usize = 48;
@@ -18,17 +20,37 @@ fn fits(fields: &[u8]) -> bool
     (family < 0x100) & ((port < 0x1_0000) & (capacity < 0x1_0000_0000))
 }
 
-// The bytes of fields.
-fn write(fields: &[u8], out: &mut [u8])
-    ensures { λ r. ⌜ now (out .exit) ≡ stored configView (now (fields .entry)) (now (out .entry)) ⌝ }
+// The sixteen bytes of the address.
+fn address_of(fields: &[u8]) -> [u8; 16]
+    ensures { λ r. ⌜ r ≡ octetsAt (now (fields .entry)) 32 16 ⌝ }
 {
-    crate::view::write_head(fields, out, FenceConfig::MARK, FenceConfig::VERSION);
-    octets::put_u16_be(out, 8, (octets::get_u64_le(fields, 8) % 65536) as u16);
-    octets::put_u16_le(out, 10, 0);
-    crate::view::narrow_four(fields, 16, out, 12);
-    crate::view::carry(fields, 24, out, 16);
-    crate::view::carry(fields, 32, out, 24);
-    crate::view::carry(fields, 40, out, 32);
+    let first = octets::get_u64_le(fields, 32);
+    let second = octets::get_u64_le(fields, 40);
+    let mut address = [0u8; 16];
+    octets::put_u64_le(&mut address, 0, first);
+    octets::put_u64_le(&mut address, 8, second);
+    address
+}
+
+// The record of fields that fit.
+fn record_of(fields: &[u8]) -> FenceConfig
+    requires { ⌜ fitting (configView .codec .layout) (numbers configView (now fields)) ≡ true ⌝ }
+    ensures { λ r. ⌜ configView .codec .fields r ≡ numbers configView (now (fields .entry)) ⌝ }
+{
+    let family = octets::get_u64_le(fields, 0) as u8;
+    let port = octets::get_u64_le(fields, 8) as u16;
+    let capacity = octets::get_u64_le(fields, 16) as u32;
+    let root = octets::get_u64_le(fields, 24);
+    let address = address_of(fields);
+    FenceConfig {
+        endpoint: ProtectedEndpoint {
+            family,
+            address,
+            port,
+        },
+        root_cgroup_id: RootCgroupId(root),
+        capacity,
+    }
 }
 
 // From bytes to fields.
@@ -49,7 +71,7 @@ pub extern "C" fn threadwicket_config_decode(bytes: &[u8], fields: &mut [u8]) ->
     number
 }
 
-// From fields to bytes. The decoder is tried on the bytes that they give.
+// From fields to bytes, by the record's own encoder.
 #[no_mangle]
 pub extern "C" fn threadwicket_config_encode(fields: &[u8], bytes: &mut [u8]) -> u32
     ensures { λ r. ⌜ ViewEncoded configView (now (fields .entry)) (now (bytes .entry)) r (now (bytes .exit)) ⌝ }
@@ -60,10 +82,5 @@ pub extern "C" fn threadwicket_config_encode(fields: &[u8], bytes: &mut [u8]) ->
     if !fits(fields) {
         return 3;
     }
-    let mut trial = [0u8; 40];
-    write(fields, &mut trial);
-    if FenceConfig::decode(&trial).number != 0 {
-        return 3;
-    }
-    crate::view::store(&trial, bytes)
+    record_of(fields).encode(bytes)
 }
