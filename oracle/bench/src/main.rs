@@ -2,6 +2,7 @@
 //!
 //!     bench cases             the cases by number; fails where the two sides answer differently
 //!     bench SIDE CASE N       SIDE is `proved` or `rust`: the sum of N answers
+//!     bench time CASE ROUNDS  nanoseconds a call of both sides, in so many rounds: Rust, proved, each with its quartiles, and the ratio
 //!     bench bundles           the bundles for the judge, by number
 //!     bench bundle N          writes a bundle
 //!
@@ -11,6 +12,7 @@ mod bundles;
 mod classify;
 mod codecs;
 mod gate;
+mod time;
 
 use std::hint::black_box;
 use std::io::Write;
@@ -75,6 +77,12 @@ fn main() -> ExitCode {
                 };
             }
         }
+        ["time", number, rounds] => {
+            if let Some((case, rounds)) = chosen(number, rounds) {
+                println!("{}", time::row(case, rounds.max(1)));
+                return ExitCode::SUCCESS;
+            }
+        }
         [side @ ("proved" | "rust"), number, times] => {
             if let Some((case, times)) = chosen(number, times) {
                 repeat(if *side == "proved" { &case.proved } else { &case.rust }, times);
@@ -83,6 +91,6 @@ fn main() -> ExitCode {
         }
         _ => {}
     }
-    eprintln!("usage: bench cases | bench proved|rust CASE N | bench bundles | bench bundle N");
+    eprintln!("usage: bench cases | bench proved|rust CASE N | bench time CASE ROUNDS | bench bundles | bench bundle N");
     ExitCode::from(2)
 }
