@@ -60,14 +60,14 @@ THREADWICKET_ASSERT(sizeof(struct threadwicket_reading) == 8, a_reading_is_one_n
 /* Whether a packet's UDP source is the endpoint. */
 enum {
     THREADWICKET_PROTECTED = 0,    /* from the endpoint's address and port */
-    THREADWICKET_UNRELATED = 1,    /* certainly not from it */
-    THREADWICKET_INDETERMINATE = 2 /* cut, malformed, a fragment, or past what the classifier follows; an endpoint of another family */
+    THREADWICKET_UNRELATED = 1,    /* certainly not from it; so is a packet of the other family */
+    THREADWICKET_INDETERMINATE = 2 /* cut, malformed, a fragment, or past what the classifier follows; or the endpoint's family is neither 4 nor 6 */
 };
 
 /* what threadwicket_classify_raw and threadwicket_gate_raw answer where the reading is too short; no answer has this number */
 enum { THREADWICKET_NO_ROOM = 256 };
 
-/* threadwicket_classify with its parts one by one, for other languages. address: sixteen bytes. port: in host order. */
+/* threadwicket_classify with its parts one by one, for other languages. address: sixteen bytes, never null. port: in host order. */
 uint32_t threadwicket_classify_raw(const uint8_t *packet, size_t packet_len, uint8_t family, const uint8_t *address, uint16_t port,
                                    struct threadwicket_reading *reading, size_t reading_len);
 
@@ -113,13 +113,13 @@ struct threadwicket_call {
     struct threadwicket_endpoint socket; /* what the socket is bound to, family 0 where it is not */
 };
 
-/* threadwicket_gate with the call's parts one by one, for other languages. address: sixteen bytes. port: in host order. */
+/* threadwicket_gate with the call's parts one by one, for other languages. address: sixteen bytes, never null. port: in host order. */
 uint32_t threadwicket_gate_raw(const uint8_t *config, size_t config_len, uint64_t attachment, uint8_t family, const uint8_t *address,
                                uint16_t port, const uint8_t *packet, size_t packet_len, uint64_t cookie, const uint8_t *current,
                                size_t current_len, const uint8_t *table, size_t table_len, uint64_t now_boot_ns,
                                struct threadwicket_reading *reading, size_t reading_len);
 
-/* reading may be null. The answer is one of the eight verdicts above, and can be compared as it is. */
+/* call is not null; reading may be. The answer is one of the eight verdicts above, and can be compared as it is. */
 static inline uint32_t threadwicket_gate(const struct threadwicket_call *call, struct threadwicket_reading *reading) {
     struct threadwicket_reading unasked;
     return threadwicket_gate_raw(call->config, call->config_len, call->attachment, call->socket.family, call->socket.address,

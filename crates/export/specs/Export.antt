@@ -1,5 +1,5 @@
--- Answers for programs in other languages: a number, and beside it, in room that the caller lends, how many extension headers were passed.
--- Assumes nothing.
+-- Answers for programs in other languages, of which document 01 does not speak: a number, and beside it, in room that the caller lends, how
+-- many extension headers were passed, as 01 counts them. Assumes nothing.
 use Rattle.octets.specs.Words.{ℕ, _≡_, cond, List, length, leb}
 use Rattle.octets.specs.Octets.{put, leBytes}
 use Rattle.packet.specs.Reading.{Answer}

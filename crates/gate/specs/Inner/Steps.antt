@@ -1,5 +1,5 @@
--- The parts of the gate that its inner functions are held to: the search from a place on, the packet's source, the record that is sought, a rule by its number, and
--- what the later rules look at. 01's rules are in `Gate` and do not rest on this. Assumes nothing.
+-- The parts of the gate that its inner functions are held to: the search from a place on, the packet's source, the record that is sought, a
+-- rule by its number, and what the later rules look at. 01's rules are in `Gate` and do not rest on this. Assumes nothing.
 use Rattle.octets.specs.Words.{ℕ, _≡_, true, cond, List, [], _∷_, drop, eqb}
 use denote.Ref.{RefT, ptr, now}
 use Rattle.endpoint.specs.declared.ProtectedEndpoint.{ProtectedEndpoint}
