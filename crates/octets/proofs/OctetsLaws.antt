@@ -243,7 +243,7 @@ le-first s at n h =
     let e : n ≡ 1 + (n - 1) = omega arith in
     ap (λ (k : ℕ). le (octetsAt s at k)) e ∙ le-parts s at 1 (n - 1)
 
--- a few octets spell no more than some others after them
+-- at most seven octets spell a number that has room for one octet more in eight
 pub le-few : (s : List ℕ) (at n : ℕ) → Bytes s → n ≤ 7 → le (octetsAt s at n) < 256 ^ 7
 le-few s at n h few =
     let e : n + (7 - n) ≡ 7 = omega arith in
@@ -252,7 +252,7 @@ le-few s at n h few =
     let below : le (octetsAt s at 7) < 256 ^ 7 = rw length-octets at (le-below (octetsAt s at 7) (Bytes-octets s at 7 h)) in
     omega (arith, all, below)
 
--- or of four, in four
+-- and four octets one that has room in four
 pub le-four : (s : List ℕ) (at : ℕ) → Bytes s → le (octetsAt s at 4) < 256 ^ 4
 le-four s at h = rw length-octets at (le-below (octetsAt s at 4) (Bytes-octets s at 4 h))
 
