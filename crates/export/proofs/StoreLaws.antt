@@ -1,11 +1,10 @@
--- What the functions inside a view leave: their answers, under 0 and under a refusal; one more zero at the start of a list, by induction
--- on the zeros that stand there; sixteen octets as two numbers of eight, and zeros in a run; and the last octets of a number, most
--- significant first. Assumes nothing.
-use Rattle.octets.specs.Words.{ℕ, zero, suc, _+_, _%_, _^_, _<_, _≤_, _≡_, List, [], _∷_, _++_, reverse, length, getD, take, drop, replicate, set}
+-- What the functions inside a view leave: their answers, under 0 and under a refusal; one more zero at the start of a list, and one more
+-- octet of a copy, by induction on those that stand there; sixteen octets as two numbers of eight, and zeros in a run. Assumes nothing.
+use Rattle.octets.specs.Words.{ℕ, zero, suc, _+_, _<_, _≤_, _≡_, List, [], _∷_, _++_, length, getD, take, drop, replicate, set}
 use Rattle.octets.proofs.Tools.{refl, sym, ap, _∙_, arith, eq-eqb, ne-eqb, lt-leb}
 use native.Mathlib.Numerals.{add-one}
-use Rattle.octets.specs.Octets.{Bytes, octetsAt, put, le, leBytes, beBytes}
-use Rattle.octets.proofs.OctetsLaws.{leBytes-mod, length-octets, octets-append, put-append, put-parts}
+use Rattle.octets.specs.Octets.{Bytes, octetsAt, put, le, leBytes}
+use Rattle.octets.proofs.OctetsLaws.{length-octets, octets-append, put-append, put-parts}
 use Rattle.config.proofs.AddressLaws.{octets-back}
 use Rattle.codec.specs.Codec.{roomAnswer, written}
 use Rattle.codec.proofs.CodecLaws.{room-done, room-given, written-done}
@@ -63,10 +62,6 @@ one-copied (suc i) (y ∷ s) (x ∷ d) h g = ap (λ (l : List ℕ). y ∷ l) (on
 
 pub copy-step : (i : ℕ) (s d : List ℕ) → i < length s → i < length d → set (take i s ++ drop i d) i (getD s i 0) ≡ take (i + 1) s ++ drop (i + 1) d
 copy-step i s d h g = rw add-one (one-copied i s d h g)
-
-pub beBytes-mod : (n v : ℕ) → beBytes n (v % 256 ^ n) ≡ beBytes n v
-unfolding beBytes
-beBytes-mod n v = ap reverse (leBytes-mod n v)
 
 -- sixteen octets of bytes, stored as the number that they spell, are two numbers of eight side by side
 pub sixteen : (s : List ℕ) (i : ℕ) → Bytes s → (d : List ℕ) (j : ℕ) →

@@ -6,7 +6,7 @@ use Rattle.octets.specs.Words.{ℕ, zero, suc, _+_, _-_, _*_, _/_, _%_, 
 use Rattle.octets.proofs.Tools.{refl, sym, ap, _∙_, arith, eq-eqb, ne-eqb, eqb-true, eqb-false}
 use Rattle.octets.proofs.Choices.{and-assoc}
 use mathlib.Core.Path.{subst}
-use native.Mathlib.Nat.{add-zero, zero-add, suc-add, add-suc, add-assoc, add-comm, mul-assoc, mul-comm, mul-add, div-div-eq-div-mul, pow-zero, pow-suc, pow-succ', div-one, one-mul, div-lt-iff-lt-mul, lt-of-lt-of-le}
+use native.Mathlib.Nat.{add-zero, zero-add, suc-add, add-comm, mul-assoc, div-div-eq-div-mul, pow-zero, pow-suc, pow-succ', div-one}
 use native.Mathlib.Numerals.{add-one}
 use mathlib.Core.List.{append-assoc, append-nil, reverse-append, reverse-cons, reverse-reverse}
 use lib.ListN.{drop-of-length-le, length-append, length-reverse, length-set, length-drop, List·getD-eq-default}

@@ -1,7 +1,7 @@
 -- `is_zero`: while octets are left, those passed were zero, so what is asked of all is what is asked of the rest. The rest falls by
 -- one a turn; past the end it is zero throughout. Assumes nothing.
-use Rattle.octets.specs.Words.{ℕ, _≡_}
-use Rattle.octets.proofs.Tools.{refl, sym, _∙_, arith, needs, eq-eqb, ne-eqb}
+use Rattle.octets.specs.Words.{_≡_}
+use Rattle.octets.proofs.Tools.{refl, sym, _∙_, needs, eq-eqb, ne-eqb}
 use Rattle.octets.specs.Octets.{octetsAt, allZero}
 use Rattle.octets.proofs.OctetsLaws.{zero-first, zero-past}
 use Rattle.octets.proofs.is_zero.Statement.{statement}

@@ -1,5 +1,5 @@
 -- `encode`: its answers are those of every encoder, each returned by its own test. Assumes nothing.
-use Rattle.octets.specs.Words.{_≡_, true, false}
+use Rattle.octets.specs.Words.{true, false}
 use Rattle.octets.proofs.Tools.{sym, _∙_, arith, lt-leb, le-leb, not-true, not-false}
 use Rattle.codec.specs.Codec.{roomAnswer}
 use Rattle.codec.proofs.CodecLaws.{refl, free, needs, encode-refused, encode-put}

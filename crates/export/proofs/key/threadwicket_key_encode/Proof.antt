@@ -1,6 +1,6 @@
 -- `threadwicket_key_encode`: the answers of every encoder from an image, whose bytes were tried. Assumes nothing.
 use Rattle.octets.specs.Octets.{Bytes}
-use Rattle.export.proofs.ViewLaws.{refl, needs, free, whole, refused-length, tried-refused, tried-taken}
+use Rattle.export.proofs.ViewLaws.{needs, free, whole, refused-length, tried-refused, tried-taken}
 use Rattle.export.specs.Views.{keyView}
 use Rattle.export.proofs.Viewables.{key-viewable}
 use Rattle.export.proofs.key.threadwicket_key_encode as the

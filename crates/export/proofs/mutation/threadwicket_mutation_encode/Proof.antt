@@ -1,6 +1,6 @@
 -- `threadwicket_mutation_encode`: the answers of every encoder from an image, whose bytes were tried. Assumes nothing.
 use Rattle.octets.specs.Octets.{Bytes}
-use Rattle.export.proofs.ViewLaws.{refl, needs, free, whole, refused-length, tried-refused, tried-taken}
+use Rattle.export.proofs.ViewLaws.{needs, free, whole, refused-length, tried-refused, tried-taken}
 use Rattle.export.specs.Views.{mutationView}
 use Rattle.export.proofs.Viewables.{mutation-viewable}
 use Rattle.export.proofs.mutation.threadwicket_mutation_encode as the
