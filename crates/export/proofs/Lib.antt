@@ -2,8 +2,7 @@
 pub mod StoreLaws
 pub mod ViewLaws
 pub mod Viewables
-pub mod RoundLaws
-pub mod RoundTrips
+pub mod InspectionLaws
 pub mod UniqueLaws
 pub mod Unique
 pub mod LentLaws

@@ -1,5 +1,5 @@
--- What the functions inside a view leave: their answers, under 0 and under a refusal; one more zero at the start of a list, and one more
--- octet of a copy, by induction on those that stand there; sixteen octets as two numbers of eight, and zeros in a run. Assumes nothing.
+-- What the functions inside a view leave: their answers, under 0 and under a refusal; one more zero at the start of a list, by
+-- induction on those that stand there; sixteen octets as two numbers of eight, and zeros in a run. Assumes nothing.
 use Rattle.octets.specs.Words.{ℕ, zero, suc, _+_, _<_, _≤_, _≡_, List, [], _∷_, _++_, length, getD, take, drop, replicate, set}
 use Rattle.octets.proofs.Tools.{refl, sym, ap, _∙_, arith, eq-eqb, ne-eqb, lt-leb}
 use native.Mathlib.Numerals.{add-one}
@@ -33,16 +33,6 @@ module _ {read n m : ℕ} {out mid : List ℕ} (p : (m ≡ roomAnswer read n (le
   pub shown-refused : {there : List ℕ} → (m ≡ 0 → ⊥) → Shown read n there out m mid
   shown-refused h = record { number = p .0; output = simp (ne-eqb m 0 h) (p .1) }
 
--- ---- what `store` answers
-
-module _ (bytes out : List ℕ) where
-  pub stored-short : length out < length bytes → (4 ≡ roomAnswer 0 (length bytes) (length out)) × (out ≡ written 4 bytes out)
-  unfolding roomAnswer written
-  stored-short h = (simp (lt-leb _ _ h), refl)
-
-  pub stored-done : {out′ : List ℕ} → length bytes ≤ length out → out′ ≡ bytes ++ drop (length bytes) out → (0 ≡ roomAnswer 0 (length bytes) (length out)) × (out′ ≡ written 0 bytes out)
-  stored-done h q = (sym (room-given (length bytes) (length out) h), q ∙ sym (written-done 0 bytes out refl))
-
 -- ---- stores
 
 one-more : (i : ℕ) (d : List ℕ) → i < length d → set (replicate i 0 ++ drop i d) i 0 ≡ replicate (suc i) 0 ++ drop (suc i) d
@@ -52,16 +42,6 @@ one-more (suc i) (x ∷ d) h = ap (λ (l : List ℕ). 0 ∷ l) (one-more i d (om
 
 pub clear-step : (i : ℕ) (d : List ℕ) → i < length d → set (replicate i 0 ++ drop i d) i 0 ≡ replicate (i + 1) 0 ++ drop (i + 1) d
 clear-step i d h = rw add-one (one-more i d h)
-
--- the same of a copy: the octets of s in the place of the first of d
-one-copied : (i : ℕ) (s d : List ℕ) → i < length s → i < length d → set (take i s ++ drop i d) i (getD s i 0) ≡ take (suc i) s ++ drop (suc i) d
-one-copied i [] d h g = absurd (omega arith)
-one-copied i (y ∷ s) [] h g = absurd (omega arith)
-one-copied zero (y ∷ s) (x ∷ d) h g = refl
-one-copied (suc i) (y ∷ s) (x ∷ d) h g = ap (λ (l : List ℕ). y ∷ l) (one-copied i s d (omega arith) (omega arith))
-
-pub copy-step : (i : ℕ) (s d : List ℕ) → i < length s → i < length d → set (take i s ++ drop i d) i (getD s i 0) ≡ take (i + 1) s ++ drop (i + 1) d
-copy-step i s d h g = rw add-one (one-copied i s d h g)
 
 -- sixteen octets of bytes, stored as the number that they spell, are two numbers of eight side by side
 pub sixteen : (s : List ℕ) (i : ℕ) → Bytes s → (d : List ℕ) (j : ℕ) →

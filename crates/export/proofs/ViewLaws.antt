@@ -3,7 +3,7 @@
 -- Assumes nothing.
 pub use Rattle.octets.proofs.Tools.{refl, free, needs}
 use Rattle.octets.specs.Words.{ℕ, suc, _-_, _^_, _<_, _≤_, _≡_, Bool, true, false, cond, _&&_, List, [], _∷_, _++_, length, drop, replicate, eqb, ltb, leb}
-use Rattle.octets.proofs.Tools.{sym, ap, _∙_, arith, eq-eqb, ne-eqb, eqb-true, lt-ltb, le-ltb, ltb-true}
+use Rattle.octets.proofs.Tools.{sym, ap, _∙_, arith, eq-eqb, ne-eqb, eqb-true, lt-ltb, le-ltb, ltb-true, lt-leb}
 use Rattle.octets.proofs.Choices.{and-left, and-right}
 use lib.ListN.{length-replicate, drop-of-length-le}
 use mathlib.Core.List.{append-nil}
@@ -13,7 +13,7 @@ use Rattle.codec.specs.Layout.{Field, width, size, fieldsAt, laid, Fit}
 use Rattle.codec.specs.Inner.Stores.{puts}
 use Rattle.codec.specs.Codec.{Codec, ok, decodeNumber, decodeValue, roomAnswer, unsoundNumber, written, bytes, encodeNumber, Encoded}
 use Rattle.codec.proofs.LayoutLaws.{fields-laid, length-laid, puts-laid, put-laid, fit-fields, length-fields}
-use Rattle.codec.proofs.CodecLaws.{Lawful, accepted-ok, room-done, written-refused}
+use Rattle.codec.proofs.CodecLaws.{Lawful, accepted-ok, room-done, room-given, written-done, written-refused}
 use Rattle.export.specs.View.{Slot, own, fixed, View, pick, spread, wide, fitting, imageSize, image, viewDecodeNumber, viewDecodeOut, numbers, cleared, soundImage, imageRefusal, viewEncodeNumber, viewEncodeOut, ViewDecoded, ViewEncoded}
 use Rattle.export.specs.Inner.Steps.{Shown, shown, stored}
 
@@ -120,18 +120,17 @@ decoded {R} {W} {Formed} L {s} {out} {out′} {n} {m} h e p =
           ∙ ap (λ (k : ℕ). written k (image W (decodeValue (W .codec) s)) out) (p .number)));
     }
 
--- ---- encoding
+-- ---- encoding: the answers on an image f
 
-is-zero : (b : Bool) → eqb (cond b 0 2) 0 ≡ b
-is-zero true = refl
-is-zero false = refl
+-- numbers that fit are a sound record's where the rule b holds of them
+pub sound-told : {R : Type 0} (W : View R) (f : List ℕ) {b : Bool} → fitting (W .codec .layout) (numbers W f) ≡ true → b ≡ ok (W .codec) (numbers W f) → soundImage W f ≡ b
+unfolding soundImage
+sound-told W f fits e = rw fits (sym e)
 
--- the decoder takes the bytes of numbers that fit where they obey the rule
-pub taken : {R : Type 0} (C : Codec R) (vs : List ℕ) → length vs ≡ length (C .layout) → Fit (C .layout) vs → eqb (decodeNumber C (laid (C .layout) vs)) 0 ≡ ok C vs
-unfolding decodeNumber
-taken C vs count fit = simp (eq-eqb _ _ (length-laid (C .layout) vs count), fields-laid (C .layout) vs fit) (is-zero (ok C vs))
-
--- ---- the answers of an encoder on an image f
+-- a sound record's image is not refused
+accepted : {R : Type 0} (W : View R) (f : List ℕ) → length f ≡ imageSize W → soundImage W f ≡ true → imageRefusal W f ≡ 0
+unfolding imageRefusal
+accepted W f long sound = simp (eq-eqb _ _ long, sound)
 
 module _ {R : Type 0} (W : View R) (f : List ℕ) {out : List ℕ} where
   -- under a refusal the output is left
@@ -146,10 +145,33 @@ module _ {R : Type 0} (W : View R) (f : List ℕ) {out : List ℕ} where
   unfolding imageRefusal
   refused-length h = refused (simp (ne-eqb _ _ h)) (λ e. omega arith)
 
-  -- a number that does not fit
+  -- no sound record's; a number that does not fit is none's
+  pub refused-unsound : length f ≡ imageSize W → soundImage W f ≡ false → ViewEncoded W f out 3 out
+  unfolding imageRefusal
+  refused-unsound e h = refused (simp (eq-eqb _ _ e, h)) (λ e. omega arith)
+
   pub refused-wide : length f ≡ imageSize W → fitting (W .codec .layout) (numbers W f) ≡ false → ViewEncoded W f out 3 out
-  unfolding imageRefusal soundImage
-  refused-wide e h = refused (simp (eq-eqb _ _ e, h)) (λ e. omega arith)
+  unfolding soundImage
+  refused-wide e h = refused-unsound e (simp h)
+
+  module _ (long : length f ≡ imageSize W) (sound : soundImage W f ≡ true) where
+    -- too little room
+    pub refused-room : length out < size (W .codec .layout) → ViewEncoded W f out 4 out
+    unfolding viewEncodeNumber viewEncodeOut roomAnswer
+    refused-room h =
+        let answered : 4 ≡ viewEncodeNumber W f out = rw (accepted W f long sound) (simp (lt-leb _ _ h)) in
+        record { number = answered; output = sym (rw (sym answered) (written-refused 4 (laid (W .codec .layout) (numbers W f)) out (λ e. omega arith))) }
+
+    -- room, and the numbers stored one after the other
+    pub stored-whole : {out′ : List ℕ} → length (W .slots) ≡ length (W .codec .layout) → size (W .codec .layout) ≤ length out → out′ ≡ stored W f out → ViewEncoded W f out 0 out′
+    unfolding viewEncodeNumber viewEncodeOut
+    stored-whole counted room e =
+        let fs = W .codec .layout in
+        let answered : 0 ≡ viewEncodeNumber W f out = rw (accepted W f long sound) (sym (room-given (size fs) (length out) room)) in
+        record {
+          number = answered;
+          output = e ∙ puts-start fs (numbers W f) out (count-numbers W f counted) room ∙ sym (rw (sym answered) (written-done 0 (laid fs (numbers W f)) out refl));
+        }
 
 -- the record's own encoder, on the record whose numbers the image gives
 pub by-record : {R : Type 0} (W : View R) (f : List ℕ) {v : R} {out out′ : List ℕ} {m : ℕ} → length f ≡ imageSize W → fitting (W .codec .layout) (numbers W f) ≡ true →
@@ -163,39 +185,3 @@ by-record W f {v} {out} {out′} {m} long fits same e =
       output = e .output ∙ ap (λ (k : ℕ). written k (bytes (W .codec) v) out) same-number
           ∙ ap (λ (vs : List ℕ). written (viewEncodeNumber W f out) (laid (W .codec .layout) vs) out) same;
     }
-
--- bytes that were put into zeros, and tried: n is the decoder's number
-module _ {R : Type 0} {W : View R} {Formed : R → Type 0} (L : Viewable W Formed) (f : List ℕ) {n : ℕ} {trial : List ℕ}
-    (long : length f ≡ imageSize W) (fits : fitting (W .codec .layout) (numbers W f) ≡ true) (t : trial ≡ stored W f (replicate (size (W .codec .layout)) 0))
-    (q : n ≡ decodeNumber (W .codec) trial) where
-  -- they are the record's
-  on-trial : trial ≡ laid (W .codec .layout) (numbers W f)
-  on-trial =
-      let fs = W .codec .layout in
-      let vs = numbers W f in
-      let zeros : List ℕ = replicate (size fs) 0 in
-      let none : drop (size fs) zeros ≡ [] = drop-of-length-le zeros {i = size fs} (rw length-replicate (omega arith)) in
-      let room : size fs ≤ length zeros = rw length-replicate (omega arith) in
-      t ∙ puts-laid fs vs zeros 0 ∙ put-laid fs vs zeros (count-numbers W f (L .counted)) room ∙ ap (λ (l : List ℕ). laid fs vs ++ l) none ∙ append-nil (laid fs vs)
-
-  -- and numbers that fit are a sound record's where the decoder takes their bytes
-  judged : unsoundNumber (eqb n 0) ≡ imageRefusal W f
-  unfolding imageRefusal soundImage
-  judged =
-      let count = count-numbers W f (L .counted) in
-      let sound : eqb n 0 ≡ ok (W .codec) (numbers W f) =
-      ap (λ (k : ℕ). eqb k 0) (q ∙ ap (decodeNumber (W .codec)) on-trial) ∙ taken (W .codec) (numbers W f) count (fit-fitting (W .codec .layout) (numbers W f) count fits) in
-      simp (eq-eqb _ _ long, fits) (ap unsoundNumber sound)
-
-  pub tried-refused : {out : List ℕ} → (n ≡ 0 → ⊥) → ViewEncoded W f out 3 out
-  tried-refused h = refused W f (simp (ne-eqb n 0 h) at judged) (λ e. omega arith)
-
-  pub tried-taken : {m : ℕ} {out out′ : List ℕ} → n ≡ 0 → (m ≡ roomAnswer 0 (length trial) (length out)) × (out′ ≡ written m trial out) → ViewEncoded W f out m out′
-  unfolding viewEncodeNumber viewEncodeOut
-  tried-taken {m} {out} z p =
-      let fs = W .codec .layout in
-      let vs = numbers W f in
-      let none : imageRefusal W f ≡ 0 = sym (simp (eq-eqb n 0 z) at judged) in
-      let size-of : length trial ≡ size fs = ap length on-trial ∙ length-laid fs vs (count-numbers W f (L .counted)) in
-      let answered : m ≡ viewEncodeNumber W f out = rw none (p .0 ∙ ap (λ (k : ℕ). roomAnswer 0 k (length out)) size-of) in
-      record { number = answered; output = p .1 ∙ ap (λ (b : List ℕ). written m b out) on-trial ∙ ap (λ (k : ℕ). written k (laid fs vs) out) answered }

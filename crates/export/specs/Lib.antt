@@ -1,6 +1,5 @@
--- The definitions that the contracts of `export` cite, and what is promised of images. Assumes nothing.
+-- The definitions that the contracts of `export` cite. Assumes nothing.
 pub mod Export
 pub mod View
 pub mod Views
-pub mod Promises
 pub mod Inner

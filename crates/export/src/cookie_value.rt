@@ -1,20 +1,31 @@
 // A cookie value for programs in other languages. Its fields: control, cookie, token, deadline, epoch.
 use records::cookie_value::FenceCookieValue;
-ghost use Rattle.octets.specs.Words.{_≡_};
+use units::BootNs;
+use units::ControlEpoch;
+use units::DurableFenceToken;
+use units::SocketCookie;
+ghost use Rattle.octets.specs.Words.{_≡_, [], _∷_};
 ghost use Rattle.export.specs.View.{ViewDecoded, ViewEncoded};
 ghost use Rattle.export.specs.Views.{cookieValueView};
-ghost use Rattle.export.specs.Inner.Steps.{stored};
+ghost use Rattle.codec.specs.Inner.Stores.{puts};
 
-// The bytes of fields.
-fn write(fields: &[u8], out: &mut [u8])
-    ensures { λ r. ⌜ now (out .exit) ≡ stored cookieValueView (now (fields .entry)) (now (out .entry)) ⌝ }
+// The bytes of a record's own numbers.
+fn write(
+    control: u32,
+    cookie: SocketCookie,
+    token: DurableFenceToken,
+    deadline: BootNs,
+    epoch: ControlEpoch,
+    out: &mut [u8],
+)
+    ensures { λ r. ⌜ now (out .exit) ≡ puts (cookieValueView .codec .layout) (0 ∷ control ∷ cookie .0 ∷ token .0 ∷ deadline .0 ∷ epoch .0 ∷ []) (now (out .entry)) 0 ⌝ }
 {
     octets::put_u32_le(out, 0, 0);
-    crate::view::narrow_four(fields, 0, out, 4);
-    crate::view::carry(fields, 8, out, 8);
-    crate::view::carry(fields, 16, out, 16);
-    crate::view::carry(fields, 24, out, 24);
-    crate::view::carry(fields, 32, out, 32);
+    octets::put_u32_le(out, 4, control);
+    octets::put_u64_le(out, 8, cookie.0);
+    octets::put_u64_le(out, 16, token.0);
+    octets::put_u64_le(out, 24, deadline.0);
+    octets::put_u64_le(out, 32, epoch.0);
 }
 
 // From bytes to fields.
@@ -34,7 +45,7 @@ pub extern "C" fn threadwicket_cookie_value_decode(bytes: &[u8], fields: &mut [u
     number
 }
 
-// From fields to bytes. The decoder is tried on the bytes that they give.
+// From fields to bytes.
 #[no_mangle]
 pub extern "C" fn threadwicket_cookie_value_encode(fields: &[u8], bytes: &mut [u8]) -> u32
     ensures { λ r. ⌜ ViewEncoded cookieValueView (now (fields .entry)) (now (bytes .entry)) r (now (bytes .exit)) ⌝ }
@@ -42,13 +53,21 @@ pub extern "C" fn threadwicket_cookie_value_encode(fields: &[u8], bytes: &mut [u
     if fields.len() != FenceCookieValue::LEN {
         return 1;
     }
-    if 0xffff_ffff < octets::get_u64_le(fields, 0) {
+    let control = octets::get_u64_le(fields, 0);
+    let cookie = SocketCookie(octets::get_u64_le(fields, 8));
+    let token = DurableFenceToken(octets::get_u64_le(fields, 16));
+    let deadline = BootNs(octets::get_u64_le(fields, 24));
+    let epoch = ControlEpoch(octets::get_u64_le(fields, 32));
+    if 0xffff_ffff < control {
         return 3;
     }
-    let mut trial = [0u8; 40];
-    write(fields, &mut trial);
-    if FenceCookieValue::decode(&trial).number != 0 {
+    let word = control as u32;
+    if !records::cookie_value::rule(0, word, cookie, token, deadline, epoch) {
         return 3;
     }
-    crate::view::store(&trial, bytes)
+    if bytes.len() < FenceCookieValue::LEN {
+        return 4;
+    }
+    write(word, cookie, token, deadline, epoch, bytes);
+    0
 }

@@ -1,18 +1,20 @@
 // The current record for programs in other languages. Its fields: control, token, cookie.
 use records::current::CurrentFenceToken;
-ghost use Rattle.octets.specs.Words.{_≡_};
+use units::DurableFenceToken;
+use units::SocketCookie;
+ghost use Rattle.octets.specs.Words.{_≡_, [], _∷_};
 ghost use Rattle.export.specs.View.{ViewDecoded, ViewEncoded};
 ghost use Rattle.export.specs.Views.{currentView};
-ghost use Rattle.export.specs.Inner.Steps.{stored};
+ghost use Rattle.codec.specs.Inner.Stores.{puts};
 
-// The bytes of fields.
-fn write(fields: &[u8], out: &mut [u8])
-    ensures { λ r. ⌜ now (out .exit) ≡ stored currentView (now (fields .entry)) (now (out .entry)) ⌝ }
+// The bytes of a record's own numbers.
+fn write(control: u32, token: DurableFenceToken, cookie: SocketCookie, out: &mut [u8])
+    ensures { λ r. ⌜ now (out .exit) ≡ puts (currentView .codec .layout) (0 ∷ control ∷ token .0 ∷ cookie .0 ∷ []) (now (out .entry)) 0 ⌝ }
 {
     octets::put_u32_le(out, 0, 0);
-    crate::view::narrow_four(fields, 0, out, 4);
-    crate::view::carry(fields, 8, out, 8);
-    crate::view::carry(fields, 16, out, 16);
+    octets::put_u32_le(out, 4, control);
+    octets::put_u64_le(out, 8, token.0);
+    octets::put_u64_le(out, 16, cookie.0);
 }
 
 // From bytes to fields.
@@ -30,7 +32,7 @@ pub extern "C" fn threadwicket_current_decode(bytes: &[u8], fields: &mut [u8]) -
     number
 }
 
-// From fields to bytes. The decoder is tried on the bytes that they give.
+// From fields to bytes.
 #[no_mangle]
 pub extern "C" fn threadwicket_current_encode(fields: &[u8], bytes: &mut [u8]) -> u32
     ensures { λ r. ⌜ ViewEncoded currentView (now (fields .entry)) (now (bytes .entry)) r (now (bytes .exit)) ⌝ }
@@ -38,13 +40,19 @@ pub extern "C" fn threadwicket_current_encode(fields: &[u8], bytes: &mut [u8]) -
     if fields.len() != CurrentFenceToken::LEN {
         return 1;
     }
-    if 0xffff_ffff < octets::get_u64_le(fields, 0) {
+    let control = octets::get_u64_le(fields, 0);
+    let token = DurableFenceToken(octets::get_u64_le(fields, 8));
+    let cookie = SocketCookie(octets::get_u64_le(fields, 16));
+    if 0xffff_ffff < control {
         return 3;
     }
-    let mut trial = [0u8; 24];
-    write(fields, &mut trial);
-    if CurrentFenceToken::decode(&trial).number != 0 {
+    let word = control as u32;
+    if !records::current::rule(0, word, token, cookie) {
         return 3;
     }
-    crate::view::store(&trial, bytes)
+    if bytes.len() < CurrentFenceToken::LEN {
+        return 4;
+    }
+    write(word, token, cookie, bytes);
+    0
 }

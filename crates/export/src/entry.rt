@@ -1,19 +1,28 @@
 // An entry for programs in other languages. Its fields: control, token, deadline, epoch.
 use records::entry::FenceEntry;
-ghost use Rattle.octets.specs.Words.{_≡_};
+use units::BootNs;
+use units::ControlEpoch;
+use units::DurableFenceToken;
+ghost use Rattle.octets.specs.Words.{_≡_, [], _∷_};
 ghost use Rattle.export.specs.View.{ViewDecoded, ViewEncoded};
 ghost use Rattle.export.specs.Views.{entryView};
-ghost use Rattle.export.specs.Inner.Steps.{stored};
+ghost use Rattle.codec.specs.Inner.Stores.{puts};
 
-// The bytes of fields.
-fn write(fields: &[u8], out: &mut [u8])
-    ensures { λ r. ⌜ now (out .exit) ≡ stored entryView (now (fields .entry)) (now (out .entry)) ⌝ }
+// The bytes of a record's own numbers.
+fn write(
+    control: u32,
+    token: DurableFenceToken,
+    deadline: BootNs,
+    epoch: ControlEpoch,
+    out: &mut [u8],
+)
+    ensures { λ r. ⌜ now (out .exit) ≡ puts (entryView .codec .layout) (0 ∷ control ∷ token .0 ∷ deadline .0 ∷ epoch .0 ∷ []) (now (out .entry)) 0 ⌝ }
 {
     octets::put_u32_le(out, 0, 0);
-    crate::view::narrow_four(fields, 0, out, 4);
-    crate::view::carry(fields, 8, out, 8);
-    crate::view::carry(fields, 16, out, 16);
-    crate::view::carry(fields, 24, out, 24);
+    octets::put_u32_le(out, 4, control);
+    octets::put_u64_le(out, 8, token.0);
+    octets::put_u64_le(out, 16, deadline.0);
+    octets::put_u64_le(out, 24, epoch.0);
 }
 
 // From bytes to fields.
@@ -32,7 +41,7 @@ pub extern "C" fn threadwicket_entry_decode(bytes: &[u8], fields: &mut [u8]) -> 
     number
 }
 
-// From fields to bytes. The decoder is tried on the bytes that they give.
+// From fields to bytes.
 #[no_mangle]
 pub extern "C" fn threadwicket_entry_encode(fields: &[u8], bytes: &mut [u8]) -> u32
     ensures { λ r. ⌜ ViewEncoded entryView (now (fields .entry)) (now (bytes .entry)) r (now (bytes .exit)) ⌝ }
@@ -40,13 +49,20 @@ pub extern "C" fn threadwicket_entry_encode(fields: &[u8], bytes: &mut [u8]) -> 
     if fields.len() != FenceEntry::LEN {
         return 1;
     }
-    if 0xffff_ffff < octets::get_u64_le(fields, 0) {
+    let control = octets::get_u64_le(fields, 0);
+    let token = DurableFenceToken(octets::get_u64_le(fields, 8));
+    let deadline = BootNs(octets::get_u64_le(fields, 16));
+    let epoch = ControlEpoch(octets::get_u64_le(fields, 24));
+    if 0xffff_ffff < control {
         return 3;
     }
-    let mut trial = [0u8; 32];
-    write(fields, &mut trial);
-    if FenceEntry::decode(&trial).number != 0 {
+    let word = control as u32;
+    if !records::entry::rule(0, word, token, deadline, epoch) {
         return 3;
     }
-    crate::view::store(&trial, bytes)
+    if bytes.len() < FenceEntry::LEN {
+        return 4;
+    }
+    write(word, token, deadline, epoch, bytes);
+    0
 }

@@ -1,23 +1,91 @@
 // An inspection for programs in other languages. Its fields: the flag, then those of the current record, of the mutation authority and of
 // the cookie value, which are zero with flag 0.
 use inspection::FenceInspection;
+use records::mutation::FenceMutationAuthority;
+use units::BootNs;
+use units::ControlEpoch;
+use units::DurableFenceToken;
+use units::SocketCookie;
 ghost use Rattle.octets.specs.Words.{_≡_};
 ghost use Rattle.octets.specs.Octets.{put, leBytes};
-ghost use Rattle.export.specs.View.{fitting, numbers, ViewDecoded, ViewEncoded};
-ghost use Rattle.export.specs.Views.{inspectionView};
-ghost use Rattle.export.specs.Inner.Steps.{stored};
+ghost use Rattle.export.specs.View.{soundImage, ViewDecoded, ViewEncoded};
+ghost use Rattle.export.specs.Views.{currentView, mutationView, inspectionView};
+ghost use Rattle.export.specs.Inner.Steps.{soundAt, entryAt, stored};
 
 // The length of the fields.
 const FIELDS: usize = 88;
 
-// Whether each field fits its place.
-fn fits(fields: &[u8]) -> bool
-    ensures { λ r. ⌜ r ≡ fitting (inspectionView .codec .layout) (numbers inspectionView (now (fields .entry))) ⌝ }
+// Whether the fields in a current record's place obey its rule.
+fn current_is_sound(fields: &[u8]) -> bool
+    ensures { λ r. ⌜ r ≡ soundAt currentView (now (fields .entry)) 8 ⌝ }
+{
+    let control = octets::get_u64_le(fields, 8);
+    let token = octets::get_u64_le(fields, 16);
+    let cookie = octets::get_u64_le(fields, 24);
+    if 0xffff_ffff < control {
+        return false;
+    }
+    records::current::rule(
+        0,
+        control as u32,
+        DurableFenceToken(token),
+        SocketCookie(cookie),
+    )
+}
+
+// Whether those in a mutation authority's place do.
+fn mutation_is_sound(fields: &[u8]) -> bool
+    ensures { λ r. ⌜ r ≡ soundAt mutationView (now (fields .entry)) 32 ⌝ }
+{
+    let generation = octets::get_u64_le(fields, 32);
+    let in_flight_claim = octets::get_u64_le(fields, 40);
+    let authority = FenceMutationAuthority {
+        generation,
+        in_flight_claim,
+    };
+    authority.is_sound()
+}
+
+// Whether those in a cookie value's place do under a flag of 0 or 1: zeros under 0.
+fn entry_is_sound(flag: u64, fields: &[u8]) -> bool
+    ensures { λ r. ⌜ r ≡ entryAt flag (now (fields .entry)) ⌝ }
+{
+    let control = octets::get_u64_le(fields, 48);
+    let cookie = octets::get_u64_le(fields, 56);
+    let token = octets::get_u64_le(fields, 64);
+    let deadline = octets::get_u64_le(fields, 72);
+    let epoch = octets::get_u64_le(fields, 80);
+    if flag == 0 {
+        return (control == 0) & ((cookie == 0) & ((token == 0) & ((deadline == 0) & (epoch == 0))));
+    }
+    if 0xffff_ffff < control {
+        return false;
+    }
+    records::cookie_value::rule(
+        0,
+        control as u32,
+        SocketCookie(cookie),
+        DurableFenceToken(token),
+        BootNs(deadline),
+        ControlEpoch(epoch),
+    )
+}
+
+// Whether fields are a sound record's: a flag of 0 or 1, and the parts' fields by their own rules.
+fn is_sound(fields: &[u8]) -> bool
+    ensures { λ r. ⌜ r ≡ soundImage inspectionView (now (fields .entry)) ⌝ }
 {
     let flag = octets::get_u64_le(fields, 0);
-    let published = octets::get_u64_le(fields, 8);
-    let state = octets::get_u64_le(fields, 48);
-    (flag < 0x100) & ((published < 0x1_0000_0000) & (state < 0x1_0000_0000))
+    if 1 < flag {
+        return false;
+    }
+    if !current_is_sound(fields) {
+        return false;
+    }
+    if !mutation_is_sound(fields) {
+        return false;
+    }
+    entry_is_sound(flag, fields)
 }
 
 // The forty zeros at the end.
@@ -74,7 +142,7 @@ pub extern "C" fn threadwicket_inspection_decode(bytes: &[u8], fields: &mut [u8]
     number
 }
 
-// From fields to bytes. The decoder is tried on the bytes that they give.
+// From fields to bytes.
 #[no_mangle]
 pub extern "C" fn threadwicket_inspection_encode(fields: &[u8], bytes: &mut [u8]) -> u32
     ensures { λ r. ⌜ ViewEncoded inspectionView (now (fields .entry)) (now (bytes .entry)) r (now (bytes .exit)) ⌝ }
@@ -82,13 +150,12 @@ pub extern "C" fn threadwicket_inspection_encode(fields: &[u8], bytes: &mut [u8]
     if fields.len() != FIELDS {
         return 1;
     }
-    if !fits(fields) {
+    if !is_sound(fields) {
         return 3;
     }
-    let mut trial = [0u8; 128];
-    write(fields, &mut trial);
-    if FenceInspection::decode(&trial).number != 0 {
-        return 3;
+    if bytes.len() < FenceInspection::LEN {
+        return 4;
     }
-    crate::view::store(&trial, bytes)
+    write(fields, bytes);
+    0
 }

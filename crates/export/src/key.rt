@@ -1,16 +1,22 @@
 // A key for programs in other languages. Its fields: cookie, token.
 use records::key::FenceCookieKey;
+use units::DurableFenceToken;
+use units::SocketCookie;
 ghost use Rattle.octets.specs.Words.{_≡_};
-ghost use Rattle.export.specs.View.{ViewDecoded, ViewEncoded};
+ghost use Rattle.export.specs.View.{soundImage, ViewDecoded, ViewEncoded};
 ghost use Rattle.export.specs.Views.{keyView};
-ghost use Rattle.export.specs.Inner.Steps.{stored};
 
-// The bytes of fields.
-fn write(fields: &[u8], out: &mut [u8])
-    ensures { λ r. ⌜ now (out .exit) ≡ stored keyView (now (fields .entry)) (now (out .entry)) ⌝ }
+// Whether fields are a sound record's.
+fn is_sound(fields: &[u8]) -> bool
+    ensures { λ r. ⌜ r ≡ soundImage keyView (now (fields .entry)) ⌝ }
 {
-    crate::view::carry(fields, 0, out, 0);
-    crate::view::carry(fields, 8, out, 8);
+    let cookie = octets::get_u64_le(fields, 0);
+    let token = octets::get_u64_le(fields, 8);
+    let key = FenceCookieKey {
+        socket_cookie: SocketCookie(cookie),
+        durable_fence_token: DurableFenceToken(token),
+    };
+    key.is_sound()
 }
 
 // From bytes to fields.
@@ -27,7 +33,7 @@ pub extern "C" fn threadwicket_key_decode(bytes: &[u8], fields: &mut [u8]) -> u3
     number
 }
 
-// From fields to bytes. The decoder is tried on the bytes that they give.
+// From fields to bytes.
 #[no_mangle]
 pub extern "C" fn threadwicket_key_encode(fields: &[u8], bytes: &mut [u8]) -> u32
     ensures { λ r. ⌜ ViewEncoded keyView (now (fields .entry)) (now (bytes .entry)) r (now (bytes .exit)) ⌝ }
@@ -35,10 +41,13 @@ pub extern "C" fn threadwicket_key_encode(fields: &[u8], bytes: &mut [u8]) -> u3
     if fields.len() != FenceCookieKey::LEN {
         return 1;
     }
-    let mut trial = [0u8; 16];
-    write(fields, &mut trial);
-    if FenceCookieKey::decode(&trial).number != 0 {
+    if !is_sound(fields) {
         return 3;
     }
-    crate::view::store(&trial, bytes)
+    if bytes.len() < FenceCookieKey::LEN {
+        return 4;
+    }
+    crate::view::carry(fields, 0, bytes, 0);
+    crate::view::carry(fields, 8, bytes, 8);
+    0
 }

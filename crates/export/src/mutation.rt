@@ -1,16 +1,20 @@
 // The mutation authority for programs in other languages. Its fields: generation, claim.
 use records::mutation::FenceMutationAuthority;
 ghost use Rattle.octets.specs.Words.{_≡_};
-ghost use Rattle.export.specs.View.{ViewDecoded, ViewEncoded};
+ghost use Rattle.export.specs.View.{soundImage, ViewDecoded, ViewEncoded};
 ghost use Rattle.export.specs.Views.{mutationView};
-ghost use Rattle.export.specs.Inner.Steps.{stored};
 
-// The bytes of fields.
-fn write(fields: &[u8], out: &mut [u8])
-    ensures { λ r. ⌜ now (out .exit) ≡ stored mutationView (now (fields .entry)) (now (out .entry)) ⌝ }
+// Whether fields are a sound record's.
+fn is_sound(fields: &[u8]) -> bool
+    ensures { λ r. ⌜ r ≡ soundImage mutationView (now (fields .entry)) ⌝ }
 {
-    crate::view::carry(fields, 0, out, 0);
-    crate::view::carry(fields, 8, out, 8);
+    let generation = octets::get_u64_le(fields, 0);
+    let in_flight_claim = octets::get_u64_le(fields, 8);
+    let authority = FenceMutationAuthority {
+        generation,
+        in_flight_claim,
+    };
+    authority.is_sound()
 }
 
 // From bytes to fields.
@@ -27,7 +31,7 @@ pub extern "C" fn threadwicket_mutation_decode(bytes: &[u8], fields: &mut [u8]) 
     number
 }
 
-// From fields to bytes. The decoder is tried on the bytes that they give.
+// From fields to bytes.
 #[no_mangle]
 pub extern "C" fn threadwicket_mutation_encode(fields: &[u8], bytes: &mut [u8]) -> u32
     ensures { λ r. ⌜ ViewEncoded mutationView (now (fields .entry)) (now (bytes .entry)) r (now (bytes .exit)) ⌝ }
@@ -35,10 +39,13 @@ pub extern "C" fn threadwicket_mutation_encode(fields: &[u8], bytes: &mut [u8]) 
     if fields.len() != FenceMutationAuthority::LEN {
         return 1;
     }
-    let mut trial = [0u8; 16];
-    write(fields, &mut trial);
-    if FenceMutationAuthority::decode(&trial).number != 0 {
+    if !is_sound(fields) {
         return 3;
     }
-    crate::view::store(&trial, bytes)
+    if bytes.len() < FenceMutationAuthority::LEN {
+        return 4;
+    }
+    crate::view::carry(fields, 0, bytes, 0);
+    crate::view::carry(fields, 8, bytes, 8);
+    0
 }

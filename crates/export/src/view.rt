@@ -34,29 +34,6 @@ pub(crate) fn decode_number(read: u32, fields: &mut [u8], n: usize) -> u32
     codec::room_number(0, n, fields.len())
 }
 
-// A record's bytes at the start of a slice that has room for them.
-fn put_record(out: &mut [u8], bytes: &[u8])
-    requires { ⌜ length (now bytes) ≤ length (now out) ⌝ }
-    ensures { λ r. ⌜ now (out .exit) ≡ now (bytes .entry) ++ drop (length (now (bytes .entry))) (now (out .entry)) ⌝ }
-{
-    let mut i = 0;
-    while i < bytes.len() {
-        out[i] = bytes[i];
-        i += 1;
-    }
-}
-
-// What is answered of room for a record's bytes: 4 where there is too little, else 0, and they stand at the start of `out`.
-pub(crate) fn store(bytes: &[u8], out: &mut [u8]) -> u32
-    ensures { λ r. ⌜ (r ≡ roomAnswer 0 (length (now (bytes .entry))) (length (now (out .entry)))) × (now (out .exit) ≡ written r (now (bytes .entry)) (now (out .entry))) ⌝ }
-{
-    if out.len() < bytes.len() {
-        return 4;
-    }
-    put_record(out, bytes);
-    0
-}
-
 // A number of eight bytes, from a place of one slice to a place of another.
 pub(crate) fn carry(s: &[u8], i: usize, d: &mut [u8], j: usize)
     ensures { λ r. ⌜ now (d .exit) ≡ put (now (d .entry)) j (leBytes 8 (le (octetsAt (now (s .entry)) i 8))) ⌝ }

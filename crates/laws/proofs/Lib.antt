@@ -1,2 +1,4 @@
 -- What spans the layers. Assumes nothing.
 pub mod Examples
+pub mod RoundLaws
+pub mod RoundTrips

@@ -1,5 +1,5 @@
-// What spans the layers: document 01's examples, computed from the definitions of four crates, and where each law stands. There is no
-// code here; the list is in `specs/Examples.antt`, its proof in `proofs/Examples.antt`.
+// What spans the layers: document 01's examples, computed from the definitions of four crates; there and back of the images for C, from
+// the contracts of `export` alone; and where each law stands. There is no code here.
 //
 // The laws, by name:
 //
@@ -32,7 +32,7 @@
 //   isolation (`isolated-line`, `isolated-sheet`, `isolated-listing` in `IsolationLaw.antt`), no listing is longer than the judge's
 //   output (`no-longer` in `Bound.antt`), 01's case and the edges of frames (`case-listed`, `edges-listed` in `Case.antt`).
 //   Stated in `text/specs/Promises.antt`: numbers read back (`decimals-read-back` in `text/proofs/Digits.antt`).
-// - Images for C. Stated in `export/specs/Promises.antt`: what decoding gives, encoding takes back to the same bytes, and the other way round
-//   (`seven-rounds` in `export/proofs/RoundTrips.antt`, a field for each record).
+// - Images for C. Stated in `laws/specs/Images.antt`: what decoding gives, encoding takes back to the same bytes, and the other way round
+//   (`seven-rounds` in `laws/proofs/RoundTrips.antt`, a field for each record).
 // - Examples. `examples-hold` in `laws/proofs/Examples.antt`, stated in `laws/specs/Examples.antt`: the list that document 01 asks to be
 //   proved.

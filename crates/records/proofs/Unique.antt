@@ -6,6 +6,9 @@ use Rattle.octets.proofs.UniqueLaws.{as-told, as-numbered}
 use Rattle.codec.proofs.UniqueLaws.{as-built, as-decoded, as-encoded, as-put}
 use Rattle.records.specs.Entry.{controlOf}
 use Rattle.records.proofs.States.{control-injective}
+use Rattle.records.proofs.current.rule as current-rule
+use Rattle.records.proofs.entry.rule as entry-rule
+use Rattle.records.proofs.cookie_value.rule as value-rule
 use Rattle.records.proofs.key.FenceCookieKey as key
 use Rattle.records.proofs.mutation.FenceMutationAuthority as mutation
 use Rattle.records.proofs.current.CurrentFenceToken as current
@@ -55,6 +58,9 @@ mutation-decode-determined κs a x y u v = as-decoded (λ n v. record { number =
 pub mutation-encode-determined : Determined mutation.encode.Kinds.ps mutation.encode.Kinds.r mutation.encode.Reads.Learnt
 mutation-encode-determined κs a x y u v = as-encoded u v refl refl
 
+pub current-rule-determined : Determined current-rule.Kinds.ps current-rule.Kinds.r current-rule.Reads.Learnt
+current-rule-determined κs a x y u v = as-told
+
 pub current-initial-determined : Determined current.initial.Kinds.ps current.initial.Kinds.r current.initial.Reads.Learnt
 current-initial-determined κs a x y u v = as-built (λ n v. record { number = n; value = v })
 
@@ -97,6 +103,9 @@ current-encode-determined κs a x y u v = as-encoded u v refl refl
 pub state-control-determined : Determined state.control.Kinds.ps state.control.Kinds.r state.control.Reads.Learnt
 state-control-determined κs a x y u v = as-told
 
+pub entry-rule-determined : Determined entry-rule.Kinds.ps entry-rule.Kinds.r entry-rule.Reads.Learnt
+entry-rule-determined κs a x y u v = as-told
+
 pub entry-initial-closed-determined : Determined entry.initial_closed.Kinds.ps entry.initial_closed.Kinds.r entry.initial_closed.Reads.Learnt
 entry-initial-closed-determined κs a x y u v = as-built (λ n v. record { number = n; value = v })
 
@@ -138,6 +147,9 @@ entry-decode-determined κs a x y u v = as-decoded (λ n v. record { number = n;
 
 pub entry-encode-determined : Determined entry.encode.Kinds.ps entry.encode.Kinds.r entry.encode.Reads.Learnt
 entry-encode-determined κs a x y u v = as-encoded u v refl refl
+
+pub value-rule-determined : Determined value-rule.Kinds.ps value-rule.Kinds.r value-rule.Reads.Learnt
+value-rule-determined κs a x y u v = as-told
 
 pub value-new-determined : Determined value.new.Kinds.ps value.new.Kinds.r value.new.Reads.Learnt
 value-new-determined κs a x y u v = as-built (λ n v. record { number = n; value = v })

@@ -24,7 +24,8 @@ pub struct CookieValueAnswer {
     pub value: FenceCookieValue,
 }
 
-fn rule(
+// Whether the six numbers of the layout obey its rule.
+pub fn rule(
     zeros: u32,
     control: u32,
     cookie: SocketCookie,

@@ -17,8 +17,8 @@ pub struct CurrentAnswer {
     pub value: CurrentFenceToken,
 }
 
-// The tests of the layout, by the control.
-fn rule(zeros: u32, control: u32, token: DurableFenceToken, cookie: SocketCookie) -> bool
+// Whether the four numbers of the layout obey its rule, by the control.
+pub fn rule(zeros: u32, control: u32, token: DurableFenceToken, cookie: SocketCookie) -> bool
     ensures { λ r. ⌜ r ≡ ok currentCodec (zeros ∷ control ∷ token .0 ∷ cookie .0 ∷ []) ⌝ }
 {
     let number = token.0;

@@ -62,7 +62,8 @@ pub(crate) fn state_fits(
     false
 }
 
-fn rule(
+// Whether the five numbers of the layout obey its rule.
+pub fn rule(
     zeros: u32,
     control: u32,
     token: DurableFenceToken,

@@ -59,13 +59,13 @@ impl FenceMutationAuthority {
         self.in_flight_claim
     }
 
-    // A claim is the one next generation; the last generation has none.
+    // A claim is the one after the generation; nothing is after the last.
     pub fn is_sound(self) -> bool
         ensures { λ r. ⌜ r ≡ sound mutationCodec self ⌝ }
     {
         let generation = self.generation;
         let claim = self.in_flight_claim;
-        claim == 0 || (generation < 0xffff_ffff_ffff_ffff && claim == generation + 1)
+        claim == 0 || claim - 1 == generation
     }
 
     // The record of its bytes: 1 for another length, 2 where they break its rule.

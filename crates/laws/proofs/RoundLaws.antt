@@ -8,12 +8,12 @@ use lib.Seq.{take-at}
 use native.Mathlib.Nat.{pow-le-pow-right, lt-of-lt-of-le}
 use Rattle.octets.specs.Octets.{Bytes}
 use Rattle.codec.specs.Layout.{Field, width, size, fieldsAt, laid, Fit}
-use Rattle.codec.specs.Codec.{ok, decodeNumber, decodeValue, unsoundNumber}
+use Rattle.codec.specs.Codec.{Codec, ok, decodeNumber, decodeValue, unsoundNumber}
 use Rattle.codec.proofs.LayoutLaws.{laid-fields, fields-laid, length-laid, fit-fields, length-fields}
 use Rattle.codec.proofs.CodecLaws.{accepted-ok, room-done, room-given, written-done}
 use Rattle.export.specs.View.{Slot, own, fixed, View, pick, spread, wide, fitting, imageSize, image, numbers, soundImage, imageRefusal, viewDecodeNumber, viewDecodeOut, viewEncodeNumber, viewEncodeOut, ViewDecoded, ViewEncoded}
-use Rattle.export.specs.Promises.{BytesBack, ImageBack, RoundTrips}
-use Rattle.export.proofs.ViewLaws.{Viewable, roomy, length-pick, count-numbers, fit-fitting, fitting-fit, known, taken}
+use Rattle.laws.specs.Images.{BytesBack, ImageBack, RoundTrips}
+use Rattle.export.proofs.ViewLaws.{Viewable, roomy, length-pick, count-numbers, fit-fitting, fitting-fit, known}
 
 -- ---- numbers
 
@@ -32,6 +32,15 @@ wide-fit (x ∷ xs) (f ∷ fs) [] e h g = absurd g
 wide-fit (own n ∷ xs) (f ∷ fs) (v ∷ vs) e h g =
     (lt-of-lt-of-le (g .0) (pow-le-pow-right (lit< tt) (leb-true (width f) n (and-left _ _ h))), wide-fit xs fs vs (omega arith) (and-right (leb (width f) n) _ h) (g .1))
 wide-fit (fixed n ∷ xs) (f ∷ fs) (v ∷ vs) e h g = wide-fit xs fs vs (omega arith) h (g .1)
+
+is-zero : (b : Bool) → eqb (cond b 0 2) 0 ≡ b
+is-zero true = refl
+is-zero false = refl
+
+-- the decoder takes the bytes of numbers that fit where they obey the rule
+taken : {R : Type 0} (C : Codec R) (vs : List ℕ) → length vs ≡ length (C .layout) → Fit (C .layout) vs → eqb (decodeNumber C (laid (C .layout) vs)) 0 ≡ ok C vs
+unfolding decodeNumber
+taken C vs count fit = simp (eq-eqb _ _ (length-laid (C .layout) vs count), fields-laid (C .layout) vs fit) (is-zero (ok C vs))
 
 -- ---- what 0 tells, and where it is answered
 

@@ -1,7 +1,7 @@
 -- There and back, of each of the seven records by its name. Assumes nothing.
-use Rattle.export.specs.Promises.{SevenRounds}
-use Rattle.export.proofs.RoundLaws.{round-trips}
+use Rattle.laws.specs.Images.{SevenRounds}
+use Rattle.laws.proofs.RoundLaws.{round-trips}
 use Rattle.export.proofs.Viewables.{current-viewable, mutation-viewable, key-viewable, entry-viewable, cookie-value-viewable, config-viewable, inspection-viewable}
 
 pub seven-rounds : SevenRounds
 seven-rounds = record {
