@@ -1,4 +1,5 @@
-//! `evaluate_refresh_deadlines`: kind 1, three u64; the answer is 01's number of the decision.
+//! The deadline check for C, `threadwicket_refresh`, against `evaluate_refresh_deadlines`: kind 1, three u64; the answer is 01's number of
+//! the decision (u8).
 
 use super::{Amount, Sink, Suite};
 use crate::rng::Rng;
@@ -8,7 +9,7 @@ const KIND: u8 = 1;
 
 pub const SUITE: Suite = Suite {
     name: "deadline",
-    what: "evaluate_refresh_deadlines",
+    what: "the deadline check for C, against evaluate_refresh_deadlines",
     outcomes: &["PriorExpired", "RequestedDeadlineInvalid", "DeadlineRegressed", "Apply"],
     run,
 };

@@ -1,11 +1,14 @@
-//! The joined gate, kind 56, against the plain gate of `oracle/plain`: the answer is the verdict as in `verdict`, and the headers passed.
-//! A query has the lengths of the configuration and the current record (u8 each), the attachment number, the socket (family, address,
+//! The joined gate for C, `threadwicket_gate_raw`: kind 56, against the plain gate of `oracle/plain`. The body is the length of the reading,
+//! `room` (u8); the lengths of the configuration and the current record (u8 each), the attachment number, the socket (family, address,
 //! port), cookie and boot time; a filler record and how often it stands before and after the table's own bytes (u16 each); the length
-//! of those (u16); then configuration, current record, the table's own bytes, and the packet.
+//! of those (u16); then configuration, current record, the table's own bytes, and the packet. The reading holds a5 throughout before the
+//! call. The answer is a number (u16), then all of the reading. Where `room` is 8 or more, the number is the verdict's slot, or 255 where
+//! it has none, and the reading begins with the number of extension headers passed (u64); where it is less, the number is 256 and nothing
+//! is written.
 
 use super::packet::{self, ipv6, Endpoint};
-use super::records::edge;
-use super::{verdict, Amount, Sink, Suite};
+use super::sound::edge;
+use super::{lent, verdict, Amount, Sink, Suite};
 use crate::rng::Rng;
 use opc_egress_fence_common::*;
 use plain::{gate_with_headers, Call, Socket};
@@ -14,14 +17,27 @@ const KIND: u8 = 56;
 
 pub const SUITE: Suite = Suite {
     name: "gate",
-    what: "the joined gate, against a plain one made of the original's parts",
+    what: "the joined gate for C, against a plain one made of the original's parts",
     outcomes: &[
-        "rule 1", "rule 2", "rule 3", "rule 4", "rule 5", "rule 6", "rule 7", "rule 8", "rule 9", "rule 10", "rule 11", "rule 12",
+        "rule 1",
+        "rule 2",
+        "rule 3",
+        "rule 4",
+        "rule 5",
+        "rule 6",
+        "rule 7",
+        "rule 8",
+        "rule 9",
+        "rule 10",
+        "rule 11",
+        "rule 12",
         "rule 13",
+        lent::NO_READING,
     ],
     run,
 };
 
+/// A call of the gate. Its table is bytes of its own, with a record repeated before and after them.
 #[derive(Clone)]
 pub struct Asked {
     pub config: Vec<u8>,
@@ -38,6 +54,7 @@ pub struct Asked {
 }
 
 impl Asked {
+    /// The whole table.
     pub fn table(&self) -> Vec<u8> {
         let mut table = self.filler.repeat(self.before.into());
         table.extend(&self.own);
@@ -45,8 +62,9 @@ impl Asked {
         table
     }
 
-    fn body(&self) -> Vec<u8> {
-        let mut body = vec![self.config.len() as u8, self.current.len() as u8];
+    /// The body of a query with `room` bytes for the reading.
+    fn body(&self, room: u8) -> Vec<u8> {
+        let mut body = vec![room, self.config.len() as u8, self.current.len() as u8];
         body.extend(self.attachment.to_le_bytes());
         body.extend(self.socket.bytes());
         body.extend(self.cookie.to_le_bytes());
@@ -63,7 +81,13 @@ impl Asked {
     }
 }
 
+/// Asks with just the room that a reading takes.
 fn ask(sink: &mut dyn Sink, it: &Asked) {
+    ask_in(sink, it, lent::READING);
+}
+
+/// Asks with `room` bytes for the reading.
+fn ask_in(sink: &mut dyn Sink, it: &Asked, room: u8) {
     let table = it.table();
     let socket = Socket {
         family: it.socket.family,
@@ -80,15 +104,19 @@ fn ask(sink: &mut dyn Sink, it: &Asked) {
         table: &table,
         now: it.now,
     });
-    let [slot, dropped] = verdict::answer(judged.verdict);
-    sink.push(
-        KIND,
-        &it.body(),
-        &[slot, dropped, headers],
-        SUITE.outcomes[usize::from(judged.rule) - 1],
-    );
+    let outcome = SUITE.outcomes[usize::from(judged.rule) - 1];
+    let (answer, outcome) = lent::reading(room, verdict::slot(judged.verdict), headers, outcome);
+    sink.push(KIND, &it.body(room), &answer, outcome);
 }
 
+/// A call with something altered.
+fn altered(base: &Asked, alter: impl Fn(&mut Asked)) -> Asked {
+    let mut it = base.clone();
+    alter(&mut it);
+    it
+}
+
+/// A cookie value that is Active until a deadline.
 fn value(cookie: u64, token: u64, deadline: u64) -> [u8; 40] {
     let key = FenceCookieKey::new(cookie, token).expect("neither is 0");
     let entry = FenceEntry::active(token, deadline, 2).expect("the entry is sound");
@@ -108,6 +136,7 @@ fn closed(state: usize) -> [u8; 40] {
         .encode()
 }
 
+/// The configuration of an endpoint under a root cgroup.
 fn config(endpoint: &Endpoint, root: u64) -> Vec<u8> {
     let endpoint = endpoint.original().expect("the family is 4 or 6");
     FenceConfig::new(endpoint, root, 4096)
@@ -163,119 +192,45 @@ fn run(sink: &mut dyn Sink, amount: Amount) {
         for _ in 0..rng.pick(&[0, 1, 1, 1, 2, 2, 3]) {
             perturb(&mut it, &mut rng, &endpoint);
         }
-        ask(sink, &it);
+        ask_in(sink, &it, lent::some_room(&mut rng));
     }
 }
 
+/// An allowed call, and what each rule refuses or lets pass.
 fn each_rule(sink: &mut dyn Sink, base: &Asked) {
-    ask(sink, base);
-    ask(
-        sink,
-        &Asked {
-            config: vec![],
-            ..base.clone()
-        },
-    );
-    ask(
-        sink,
-        &Asked {
-            attachment: 8,
-            ..base.clone()
-        },
-    );
-    ask(
-        sink,
-        &Asked {
-            packet: vec![0x60],
-            ..base.clone()
-        },
-    );
-    ask(
-        sink,
-        &Asked {
-            packet: vec![],
-            ..base.clone()
-        },
-    );
-    ask(
-        sink,
-        &Asked {
-            cookie: 0,
-            ..base.clone()
-        },
-    );
-    ask(
-        sink,
-        &Asked {
-            current: vec![1; 24],
-            ..base.clone()
-        },
-    );
-    ask(
-        sink,
-        &Asked {
-            own: vec![0; 39],
-            ..base.clone()
-        },
-    );
-    ask(
-        sink,
-        &Asked {
-            current: vec![0; 24],
-            ..base.clone()
-        },
-    );
+    let mut but = |alter: &dyn Fn(&mut Asked)| ask(sink, &altered(base, alter));
+    but(&|_| {});
+    but(&|it| it.config.clear());
+    but(&|it| it.attachment = 8);
+    but(&|it| it.packet = vec![0x60]);
+    but(&|it| it.packet.clear());
+    but(&|it| it.cookie = 0);
+    but(&|it| it.current = vec![1; 24]);
+    but(&|it| it.own = vec![0; 39]);
+    but(&|it| it.current = vec![0; 24]);
     for now in [0, 999, 1000, 1001, u64::MAX] {
-        ask(sink, &Asked { now, ..base.clone() });
+        but(&|it| it.now = now);
     }
     for state in 0..3 {
-        ask(
-            sink,
-            &Asked {
-                own: closed(state).to_vec(),
-                ..base.clone()
-            },
-        );
+        but(&|it| it.own = closed(state).to_vec());
     }
     let retired = CurrentFenceToken::retirement_closed(4).expect("the token is even").encode();
-    ask(
-        sink,
-        &Asked {
-            current: retired.to_vec(),
-            ..base.clone()
-        },
-    );
+    but(&|it| it.current = retired.to_vec());
     // token 0 is not sought, though a record holds it; an even token is sought, and its record does not decode
-    for (current, token) in [(vec![0; 24], 0), (retired.to_vec(), 4)] {
-        let mut own = base.own.clone();
-        own[16] = token;
-        ask(
-            sink,
-            &Asked {
-                current,
-                own,
-                ..base.clone()
-            },
-        );
+    for (current, token) in [([0; 24], 0), (retired, 4)] {
+        but(&|it| {
+            it.current = current.to_vec();
+            it.own[16] = token;
+        });
     }
     let open = CurrentFenceToken::lifecycle_open(3).expect("the token is odd").encode();
-    ask(
-        sink,
-        &Asked {
-            current: open.to_vec(),
-            ..base.clone()
-        },
-    );
+    but(&|it| it.current = open.to_vec());
 }
 
 /// Sockets that match, and that differ in one byte, the family or the port, with packets good and bad.
 fn sockets(sink: &mut dyn Sink, base: &Asked, endpoint: &Endpoint) {
     for packet in [base.packet.clone(), vec![], vec![0x60], vec![0x45; 20]] {
-        let with = |socket: Endpoint| Asked {
-            socket,
-            packet: packet.clone(),
-            ..base.clone()
-        };
+        let with = |socket: Endpoint| altered(base, |it| (it.socket, it.packet) = (socket, packet.clone()));
         ask(sink, &with(*endpoint));
         for family in 0..=255 {
             ask(sink, &with(Endpoint { family, ..*endpoint }));
@@ -293,86 +248,46 @@ fn sockets(sink: &mut dyn Sink, base: &Asked, endpoint: &Endpoint) {
 
 /// Tables of every length around a record's, and up to and over 4,096 records; the match first, last, twice and absent.
 fn tables(sink: &mut dyn Sink, base: &Asked, amount: Amount) {
+    let mut but = |alter: &dyn Fn(&mut Asked)| ask(sink, &altered(base, alter));
     for length in 0..=121 {
-        let mut own = [base.filler, base.filler, base.filler, base.filler].concat();
-        own.truncate(length);
-        ask(sink, &Asked { own, ..base.clone() });
+        but(&|it| it.own = base.filler.repeat(4)[..length].to_vec());
     }
-    let counts = if amount == Amount::Full {
-        vec![1, 2, 3, 100, 4094, 4095, 4096, 4097]
+    let counts: &[u16] = if amount == Amount::Full {
+        &[1, 2, 3, 100, 4094, 4095, 4096, 4097]
     } else {
-        vec![1, 2, 3, 4095, 4096]
+        &[1, 2, 3, 4095, 4096]
     };
-    for count in counts {
-        ask(
-            sink,
-            &Asked {
-                before: count,
-                ..base.clone()
-            },
-        );
-        ask(
-            sink,
-            &Asked {
-                after: count,
-                ..base.clone()
-            },
-        );
-        ask(
-            sink,
-            &Asked {
-                before: count,
-                own: vec![],
-                ..base.clone()
-            },
-        );
-        ask(
-            sink,
-            &Asked {
-                before: count,
-                own: [value(9, 3, 999), value(9, 3, 1000)].concat(),
-                ..base.clone()
-            },
-        );
+    for &count in counts {
+        but(&|it| it.before = count);
+        but(&|it| it.after = count);
+        but(&|it| (it.before, it.own) = (count, vec![]));
+        but(&|it| (it.before, it.own) = (count, [value(9, 3, 999), value(9, 3, 1000)].concat()));
     }
     // a key that stands across two records is no record's
     for shift in 1..40 {
-        let own = [vec![0; shift], base.own.clone(), vec![0; 40 - shift]].concat();
-        ask(sink, &Asked { own, ..base.clone() });
+        but(&|it| it.own = [vec![0; shift], base.own.clone(), vec![0; 40 - shift]].concat());
     }
     for (first, second) in [(999, 1000), (1000, 999)] {
-        let own = [value(9, 3, first), value(9, 3, second)].concat();
-        ask(sink, &Asked { own, ..base.clone() });
+        but(&|it| it.own = [value(9, 3, first), value(9, 3, second)].concat());
     }
-    let damaged = |place: usize, byte: u8| {
-        let mut own = base.own.clone();
-        own[place] = byte;
-        Asked { own, ..base.clone() }
-    };
     for place in 0..40 {
         for byte in [0, 1, 2, 3, 4, 0xff] {
-            ask(sink, &damaged(place, byte));
+            but(&|it| it.own[place] = byte);
         }
     }
 }
 
+/// Configurations, current records, packets and readings of other lengths.
 fn cuts(sink: &mut dyn Sink, base: &Asked) {
     for length in 0..=41 {
-        let mut it = base.clone();
-        it.config.resize(length, 0);
-        ask(sink, &it);
-        let mut it = base.clone();
-        it.current.resize(length, 0);
-        ask(sink, &it);
+        ask(sink, &altered(base, |it| it.config.resize(length, 0)));
+        ask(sink, &altered(base, |it| it.current.resize(length, 0)));
     }
     for length in 0..base.packet.len() {
-        ask(
-            sink,
-            &Asked {
-                packet: base.packet[..length].to_vec(),
-                ..base.clone()
-            },
-        );
+        ask(sink, &altered(base, |it| it.packet.truncate(length)));
+    }
+    for room in lent::rooms() {
+        ask_in(sink, base, room);
     }
 }
 
@@ -401,6 +316,7 @@ pub fn perturb(it: &mut Asked, rng: &mut Rng, endpoint: &Endpoint) {
     }
 }
 
+/// Alters one bit.
 fn flip(bytes: &mut [u8], rng: &mut Rng) {
     if !bytes.is_empty() {
         let place = rng.below(bytes.len());

@@ -3,9 +3,12 @@
 mod constructors;
 mod deadline;
 mod endpoint;
+mod fields;
 pub mod gate;
+mod lent;
 pub mod packet;
 mod records;
+mod sound;
 pub mod verdict;
 
 /// How much of a suite is run: a sample, in the gate, or all of it, before a landing.

@@ -1,8 +1,10 @@
-//! `classify_l3_udp_source`: kind 8, an endpoint (family, address 16, port) and a packet; the answer is 01's number of the disposition
-//! and the number of extension headers passed. The original has no such number: `plain` counts, from 01
-//! ('Reading a packet').
+//! The classifier for C, `threadwicket_classify_raw`: kind 8. The body is the length of the reading, `room` (u8), an endpoint (family,
+//! address 16, port) and a packet; the reading holds a5 throughout before the call. The answer is a number (u16), then all of the
+//! reading. Where `room` is 8 or more, the number is 01's of the disposition, and the reading begins with the number of extension headers
+//! passed (u64); where it is less, the number is 256 and nothing is written. What is expected is what `classify_l3_udp_source` gives. The
+//! original does not count the headers: `plain` does, from 01 ('Reading a packet').
 
-use super::{endpoint, Amount, Sink, Suite};
+use super::{endpoint, lent, Amount, Sink, Suite};
 use crate::rng::Rng;
 use opc_egress_fence_common::{classify_l3_udp_source, PacketEndpointDisposition, ProtectedEndpoint};
 use plain::headers_passed;
@@ -11,12 +13,12 @@ const KIND: u8 = 8;
 
 pub const SUITE: Suite = Suite {
     name: "packet",
-    what: "classify_l3_udp_source, with 01's count of extension headers",
+    what: "the classifier for C, against classify_l3_udp_source, with 01's count of extension headers",
     outcomes: OUTCOMES,
     run,
 };
 
-/// The outcomes: a disposition and a count of headers.
+/// The outcomes: a disposition and a count of headers, or neither.
 const OUTCOMES: &[&str] = &[
     "Protected after 0 headers",
     "Protected after 1 header",
@@ -33,6 +35,7 @@ const OUTCOMES: &[&str] = &[
     "Indeterminate after 2 headers",
     "Indeterminate after 3 headers",
     "Indeterminate after 4 headers",
+    lent::NO_READING,
 ];
 
 /// An endpoint as a query has it. The original cannot hold a family that is neither 4 nor 6; 01 has it give Indeterminate.
@@ -54,7 +57,7 @@ impl Endpoint {
 }
 
 /// The disposition's number and the headers passed.
-pub fn read(packet: &[u8], endpoint: &Endpoint) -> (u8, u8) {
+fn read(packet: &[u8], endpoint: &Endpoint) -> (u8, u8) {
     let Some(original) = endpoint.original() else {
         return (2, 0);
     };
@@ -66,15 +69,18 @@ pub fn read(packet: &[u8], endpoint: &Endpoint) -> (u8, u8) {
     (disposition, headers_passed(packet, original))
 }
 
-pub fn ask(sink: &mut dyn Sink, packet: &[u8], endpoint: &Endpoint) {
+/// Asks with just the room that a reading takes.
+fn ask(sink: &mut dyn Sink, packet: &[u8], endpoint: &Endpoint) {
+    ask_in(sink, packet, endpoint, lent::READING);
+}
+
+/// Asks with `room` bytes for the reading.
+fn ask_in(sink: &mut dyn Sink, packet: &[u8], endpoint: &Endpoint, room: u8) {
     let (disposition, headers) = read(packet, endpoint);
-    let body = [endpoint.bytes().as_slice(), packet].concat();
-    sink.push(
-        KIND,
-        &body,
-        &[disposition, headers],
-        OUTCOMES[usize::from(disposition * 5 + headers)],
-    );
+    let outcome = OUTCOMES[usize::from(disposition * 5 + headers)];
+    let (answer, outcome) = lent::reading(room, disposition, headers, outcome);
+    let body = [&[room], endpoint.bytes().as_slice(), packet].concat();
+    sink.push(KIND, &body, &answer, outcome);
 }
 
 pub const IPV4: Endpoint = Endpoint {
@@ -169,6 +175,9 @@ fn run(sink: &mut dyn Sink, amount: Amount) {
     named_cases(sink);
     let good = good_packets();
     for (packet, endpoint) in &good {
+        for room in lent::rooms() {
+            ask_in(sink, packet, endpoint, room);
+        }
         cut(sink, packet, endpoint);
         for other in other_endpoints(endpoint) {
             ask(sink, packet, &other);
@@ -261,7 +270,7 @@ fn every_next_header(sink: &mut dyn Sink) {
     }
 }
 
-/// A random chain, most often a deep one, or a good packet; a byte, the end or the stated length is altered now and then.
+/// A random chain, most often a deep one, or a good packet; a byte, the end, the stated length or the room is altered now and then.
 fn random(sink: &mut dyn Sink, rng: &mut Rng, good: &[(Vec<u8>, Endpoint)]) {
     let (mut packet, endpoint) = if rng.one_in(4) {
         let index = rng.below(good.len());
@@ -286,7 +295,7 @@ fn random(sink: &mut dyn Sink, rng: &mut Rng, good: &[(Vec<u8>, Endpoint)]) {
         }
         _ => {}
     }
-    ask(sink, &packet, &endpoint);
+    ask_in(sink, &packet, &endpoint, lent::some_room(rng));
 }
 
 pub fn random_chain(rng: &mut Rng) -> Vec<u8> {

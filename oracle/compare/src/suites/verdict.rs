@@ -2,7 +2,8 @@
 //! token, cookie, clock); the answer is the verdict's slot, or ff where it has none, and whether the packet must be dropped. The
 //! original's entries are sound ones; those that are not rest on 01.
 
-use super::records::{edge, odd, sound_entry, state};
+use super::fields::state;
+use super::sound::{edge, entry_of, odd};
 use super::{Amount, Sink, Suite};
 use crate::rng::Rng;
 use opc_egress_fence_common::*;
@@ -29,12 +30,9 @@ pub const SUITE: Suite = Suite {
     run,
 };
 
-/// A verdict as an answer has it: its slot, ff where it has none, and whether the packet must be dropped.
-pub fn answer(verdict: FenceVerdict) -> [u8; 2] {
-    [
-        verdict.counter_slot().map_or(0xff, |slot| slot as u8),
-        verdict.must_drop().into(),
-    ]
+/// A verdict's slot, ff where it has none.
+pub fn slot(verdict: FenceVerdict) -> u8 {
+    verdict.counter_slot().map_or(0xff, |slot| slot as u8)
 }
 
 const DISPOSITIONS: [PacketEndpointDisposition; 3] = [
@@ -72,7 +70,8 @@ fn ask(sink: &mut dyn Sink, it: Asked) {
             .chain([it.token, it.registered, it.now])
             .flat_map(u64::to_le_bytes),
     );
-    sink.push(KIND, &body, &answer(verdict), verdict_name(verdict));
+    let answer = [slot(verdict), verdict.must_drop().into()];
+    sink.push(KIND, &body, &answer, verdict_name(verdict));
 }
 
 /// An entry of each kind, with tokens and deadlines that the other fields take as well; and none.
@@ -125,7 +124,7 @@ fn run(sink: &mut dyn Sink, amount: Amount) {
 /// Most often an entry that the authority names, at a time near its deadline.
 fn random(sink: &mut dyn Sink, rng: &mut Rng) {
     let token = odd(rng);
-    let entry = if rng.one_in(8) { None } else { Some(sound_entry(rng, token)) };
+    let entry = if rng.one_in(8) { None } else { Some(entry_of(rng, token)) };
     let cookie = edge(rng);
     let deadline = entry.map_or(0, FenceEntry::deadline_boot_ns);
     let (other_token, other_cookie, any) = (edge(rng), edge(rng), rng.next());
