@@ -1,281 +1,31 @@
-// Queries 16 to 30: the seven records. 16 to 22 decode the body: the answer is the number, every field by its accessor, and of an
-// accepted record its encoding. 24 to 30 have an output's length and a record's bytes: the record is decoded and encoded again into an
-// output of that length, which holds a5 throughout; the answer is the number and the output.
-use crate::fields;
-use config::FenceConfig;
-use inspection::FenceInspection;
-use records::cookie_value::FenceCookieValue;
-use records::current::CurrentFenceToken;
-use records::entry::FenceEntry;
-use records::key::FenceCookieKey;
-use records::mutation::FenceMutationAuthority;
-ghost use Rattle.octets.specs.Words.{_≤_};
+// Queries 16 to 22 and 24 to 30: the functions for C of the seven records, `threadwicket_NAME_decode` and `threadwicket_NAME_encode`. After
+// `room` comes the input, of any length: a record's bytes to decode, or its fields to encode, as the struct for C has them.
+use crate::lent;
 
-// An output to encode into.
-const OUTPUT: [u8; 256] = [0xa5; 256];
-
-// Puts the first `n` bytes of `from` at a place of `out`.
-fn copy(from: &[u8], n: usize, out: &mut [u8], at: usize)
-    requires { ⌜ (at ≤ 66000) × (n ≤ 256) ⌝ }
-{
-    let mut i = 0;
-    while i < n {
-        octets::put_u8(out, at + i, octets::get_u8(from, i));
-        i += 1;
+// From a record's bytes to its fields.
+pub(crate) fn decode(kind: u8, bytes: &[u8], fields: &mut [u8]) -> u32 {
+    match kind {
+        16 => export::current::threadwicket_current_decode(bytes, fields),
+        17 => export::mutation::threadwicket_mutation_decode(bytes, fields),
+        18 => export::key::threadwicket_key_decode(bytes, fields),
+        19 => export::entry::threadwicket_entry_decode(bytes, fields),
+        20 => export::cookie_value::threadwicket_cookie_value_decode(bytes, fields),
+        21 => export::config_view::threadwicket_config_decode(bytes, fields),
+        22 => export::inspection_view::threadwicket_inspection_decode(bytes, fields),
+        _ => lent::NO_QUERY,
     }
 }
 
-// Puts a number and the first `room` bytes of an output.
-fn put_output(number: u32, output: &[u8], room: usize, out: &mut [u8], at: usize) -> usize
-    requires { ⌜ (at ≤ 65536) × (room ≤ 255) ⌝ }
-    ensures { λ r. ⌜ r ≤ 512 ⌝ }
-{
-    octets::put_u8(out, at, (number % 256) as u8);
-    copy(output, room, out, at + 1);
-    room + 1
-}
-
-pub(crate) fn decode_current(body: &[u8], out: &mut [u8], at: usize) -> usize
-    requires { ⌜ at ≤ 65536 ⌝ }
-    ensures { λ r. ⌜ r ≤ 512 ⌝ }
-{
-    let answer = CurrentFenceToken::decode(body);
-    let value = answer.value;
-    octets::put_u8(out, at, (answer.number % 256) as u8);
-    fields::put_current(value, out, at + 1);
-    if answer.number != 0 {
-        return 19;
+// From a record's fields to its bytes.
+pub(crate) fn encode(kind: u8, fields: &[u8], bytes: &mut [u8]) -> u32 {
+    match kind {
+        24 => export::current::threadwicket_current_encode(fields, bytes),
+        25 => export::mutation::threadwicket_mutation_encode(fields, bytes),
+        26 => export::key::threadwicket_key_encode(fields, bytes),
+        27 => export::entry::threadwicket_entry_encode(fields, bytes),
+        28 => export::cookie_value::threadwicket_cookie_value_encode(fields, bytes),
+        29 => export::config_view::threadwicket_config_encode(fields, bytes),
+        30 => export::inspection_view::threadwicket_inspection_encode(fields, bytes),
+        _ => lent::NO_QUERY,
     }
-    let mut encoding = [0u8; 24];
-    value.encode(&mut encoding);
-    copy(&encoding, 24, out, at + 19);
-    43
-}
-
-pub(crate) fn encode_current(body: &[u8], out: &mut [u8], at: usize) -> usize
-    requires { ⌜ at ≤ 65536 ⌝ }
-    ensures { λ r. ⌜ r ≤ 512 ⌝ }
-{
-    if body.len() != 25 {
-        return 0;
-    }
-    let value = CurrentFenceToken::decode(&body[1..]).value;
-    let room = octets::get_u8(body, 0) as usize;
-    let mut space = OUTPUT;
-    let output: &mut [u8] = &mut space;
-    if output.len() < room {
-        return 0;
-    }
-    let number = value.encode(&mut output[0..room]);
-    put_output(number, output, room, out, at)
-}
-
-pub(crate) fn decode_mutation(body: &[u8], out: &mut [u8], at: usize) -> usize
-    requires { ⌜ at ≤ 65536 ⌝ }
-    ensures { λ r. ⌜ r ≤ 512 ⌝ }
-{
-    let answer = FenceMutationAuthority::decode(body);
-    let value = answer.value;
-    octets::put_u8(out, at, (answer.number % 256) as u8);
-    fields::put_mutation(value, out, at + 1);
-    if answer.number != 0 {
-        return 17;
-    }
-    let mut encoding = [0u8; 16];
-    value.encode(&mut encoding);
-    copy(&encoding, 16, out, at + 17);
-    33
-}
-
-pub(crate) fn encode_mutation(body: &[u8], out: &mut [u8], at: usize) -> usize
-    requires { ⌜ at ≤ 65536 ⌝ }
-    ensures { λ r. ⌜ r ≤ 512 ⌝ }
-{
-    if body.len() != 17 {
-        return 0;
-    }
-    let value = FenceMutationAuthority::decode(&body[1..]).value;
-    let room = octets::get_u8(body, 0) as usize;
-    let mut space = OUTPUT;
-    let output: &mut [u8] = &mut space;
-    if output.len() < room {
-        return 0;
-    }
-    let number = value.encode(&mut output[0..room]);
-    put_output(number, output, room, out, at)
-}
-
-pub(crate) fn decode_key(body: &[u8], out: &mut [u8], at: usize) -> usize
-    requires { ⌜ at ≤ 65536 ⌝ }
-    ensures { λ r. ⌜ r ≤ 512 ⌝ }
-{
-    let answer = FenceCookieKey::decode(body);
-    let value = answer.value;
-    octets::put_u8(out, at, (answer.number % 256) as u8);
-    fields::put_key(value, out, at + 1);
-    if answer.number != 0 {
-        return 17;
-    }
-    let mut encoding = [0u8; 16];
-    value.encode(&mut encoding);
-    copy(&encoding, 16, out, at + 17);
-    33
-}
-
-pub(crate) fn encode_key(body: &[u8], out: &mut [u8], at: usize) -> usize
-    requires { ⌜ at ≤ 65536 ⌝ }
-    ensures { λ r. ⌜ r ≤ 512 ⌝ }
-{
-    if body.len() != 17 {
-        return 0;
-    }
-    let value = FenceCookieKey::decode(&body[1..]).value;
-    let room = octets::get_u8(body, 0) as usize;
-    let mut space = OUTPUT;
-    let output: &mut [u8] = &mut space;
-    if output.len() < room {
-        return 0;
-    }
-    let number = value.encode(&mut output[0..room]);
-    put_output(number, output, room, out, at)
-}
-
-pub(crate) fn decode_entry(body: &[u8], out: &mut [u8], at: usize) -> usize
-    requires { ⌜ at ≤ 65536 ⌝ }
-    ensures { λ r. ⌜ r ≤ 512 ⌝ }
-{
-    let answer = FenceEntry::decode(body);
-    let value = answer.value;
-    octets::put_u8(out, at, (answer.number % 256) as u8);
-    fields::put_entry(value, out, at + 1);
-    if answer.number != 0 {
-        return 29;
-    }
-    let mut encoding = [0u8; 32];
-    value.encode(&mut encoding);
-    copy(&encoding, 32, out, at + 29);
-    61
-}
-
-pub(crate) fn encode_entry(body: &[u8], out: &mut [u8], at: usize) -> usize
-    requires { ⌜ at ≤ 65536 ⌝ }
-    ensures { λ r. ⌜ r ≤ 512 ⌝ }
-{
-    if body.len() != 33 {
-        return 0;
-    }
-    let value = FenceEntry::decode(&body[1..]).value;
-    let room = octets::get_u8(body, 0) as usize;
-    let mut space = OUTPUT;
-    let output: &mut [u8] = &mut space;
-    if output.len() < room {
-        return 0;
-    }
-    let number = value.encode(&mut output[0..room]);
-    put_output(number, output, room, out, at)
-}
-
-pub(crate) fn decode_value(body: &[u8], out: &mut [u8], at: usize) -> usize
-    requires { ⌜ at ≤ 65536 ⌝ }
-    ensures { λ r. ⌜ r ≤ 512 ⌝ }
-{
-    let answer = FenceCookieValue::decode(body);
-    let value = answer.value;
-    octets::put_u8(out, at, (answer.number % 256) as u8);
-    fields::put_value(value, out, at + 1);
-    if answer.number != 0 {
-        return 45;
-    }
-    let mut encoding = [0u8; 40];
-    value.encode(&mut encoding);
-    copy(&encoding, 40, out, at + 45);
-    85
-}
-
-pub(crate) fn encode_value(body: &[u8], out: &mut [u8], at: usize) -> usize
-    requires { ⌜ at ≤ 65536 ⌝ }
-    ensures { λ r. ⌜ r ≤ 512 ⌝ }
-{
-    if body.len() != 41 {
-        return 0;
-    }
-    let value = FenceCookieValue::decode(&body[1..]).value;
-    let room = octets::get_u8(body, 0) as usize;
-    let mut space = OUTPUT;
-    let output: &mut [u8] = &mut space;
-    if output.len() < room {
-        return 0;
-    }
-    let number = value.encode(&mut output[0..room]);
-    put_output(number, output, room, out, at)
-}
-
-pub(crate) fn decode_config(body: &[u8], out: &mut [u8], at: usize) -> usize
-    requires { ⌜ at ≤ 65536 ⌝ }
-    ensures { λ r. ⌜ r ≤ 512 ⌝ }
-{
-    let answer = FenceConfig::decode(body);
-    let value = answer.value;
-    octets::put_u8(out, at, (answer.number % 256) as u8);
-    fields::put_config(value, out, at + 1);
-    if answer.number != 0 {
-        return 32;
-    }
-    let mut encoding = [0u8; 40];
-    value.encode(&mut encoding);
-    copy(&encoding, 40, out, at + 32);
-    72
-}
-
-pub(crate) fn encode_config(body: &[u8], out: &mut [u8], at: usize) -> usize
-    requires { ⌜ at ≤ 65536 ⌝ }
-    ensures { λ r. ⌜ r ≤ 512 ⌝ }
-{
-    if body.len() != 41 {
-        return 0;
-    }
-    let value = FenceConfig::decode(&body[1..]).value;
-    let room = octets::get_u8(body, 0) as usize;
-    let mut space = OUTPUT;
-    let output: &mut [u8] = &mut space;
-    if output.len() < room {
-        return 0;
-    }
-    let number = value.encode(&mut output[0..room]);
-    put_output(number, output, room, out, at)
-}
-
-pub(crate) fn decode_inspection(body: &[u8], out: &mut [u8], at: usize) -> usize
-    requires { ⌜ at ≤ 65536 ⌝ }
-    ensures { λ r. ⌜ r ≤ 512 ⌝ }
-{
-    let answer = FenceInspection::decode(body);
-    let value = answer.value;
-    octets::put_u8(out, at, (answer.number % 256) as u8);
-    fields::put_inspection(value, out, at + 1);
-    if answer.number != 0 {
-        return 80;
-    }
-    let mut encoding = [0u8; 128];
-    value.encode(&mut encoding);
-    copy(&encoding, 128, out, at + 80);
-    208
-}
-
-pub(crate) fn encode_inspection(body: &[u8], out: &mut [u8], at: usize) -> usize
-    requires { ⌜ at ≤ 65536 ⌝ }
-    ensures { λ r. ⌜ r ≤ 512 ⌝ }
-{
-    if body.len() != 129 {
-        return 0;
-    }
-    let value = FenceInspection::decode(&body[1..]).value;
-    let room = octets::get_u8(body, 0) as usize;
-    let mut space = OUTPUT;
-    let output: &mut [u8] = &mut space;
-    if output.len() < room {
-        return 0;
-    }
-    let number = value.encode(&mut output[0..room]);
-    put_output(number, output, room, out, at)
 }

@@ -1,7 +1,5 @@
 // The fields of each record, by their accessors, as an answer has them.
-use config::FenceConfig;
 use endpoint::ProtectedEndpoint;
-use inspection::FenceInspection;
 use inspection::inspected::InspectedEntry;
 use records::cookie_value::FenceCookieValue;
 use records::current::CurrentFenceToken;
@@ -11,9 +9,9 @@ use records::key::FenceCookieKey;
 use records::mutation::FenceMutationAuthority;
 ghost use Rattle.octets.specs.Words.{_≤_};
 
-// Token, cookie, whether the lifecycle is open, whether it is closed by retirement: 18 bytes.
+// Token, cookie, whether it is lifecycle-open, whether it is retirement-closed: 18 bytes.
 pub(crate) fn put_current(value: CurrentFenceToken, out: &mut [u8], at: usize)
-    requires { ⌜ at ≤ 66000 ⌝ }
+    requires { ⌜ at ≤ 400 ⌝ }
 {
     octets::put_u64_le(out, at, value.durable_fence_token().0);
     octets::put_u64_le(out, at + 8, value.registered_socket_cookie().0);
@@ -23,7 +21,7 @@ pub(crate) fn put_current(value: CurrentFenceToken, out: &mut [u8], at: usize)
 
 // Generation, claim: 16 bytes.
 pub(crate) fn put_mutation(value: FenceMutationAuthority, out: &mut [u8], at: usize)
-    requires { ⌜ at ≤ 66000 ⌝ }
+    requires { ⌜ at ≤ 400 ⌝ }
 {
     octets::put_u64_le(out, at, value.generation());
     octets::put_u64_le(out, at + 8, value.in_flight_claim());
@@ -31,7 +29,7 @@ pub(crate) fn put_mutation(value: FenceMutationAuthority, out: &mut [u8], at: us
 
 // Cookie, token: 16 bytes.
 pub(crate) fn put_key(value: FenceCookieKey, out: &mut [u8], at: usize)
-    requires { ⌜ at ≤ 66000 ⌝ }
+    requires { ⌜ at ≤ 400 ⌝ }
 {
     octets::put_u64_le(out, at, value.socket_cookie().0);
     octets::put_u64_le(out, at + 8, value.durable_fence_token().0);
@@ -47,9 +45,9 @@ fn state_number(state: FenceEntryState) -> u8 {
     }
 }
 
-// State, token, deadline, epoch, whether it is closed, terminal, being reclaimed: 28 bytes.
+// State, token, deadline, epoch, whether it is closed, terminal, reclaiming: 28 bytes.
 pub(crate) fn put_entry(value: FenceEntry, out: &mut [u8], at: usize)
-    requires { ⌜ at ≤ 66000 ⌝ }
+    requires { ⌜ at ≤ 400 ⌝ }
 {
     octets::put_u8(out, at, state_number(value.state()));
     octets::put_u64_le(out, at + 1, value.durable_fence_token().0);
@@ -59,16 +57,16 @@ pub(crate) fn put_entry(value: FenceEntry, out: &mut [u8], at: usize)
 }
 
 fn put_kinds(value: FenceEntry, out: &mut [u8], at: usize)
-    requires { ⌜ at ≤ 66100 ⌝ }
+    requires { ⌜ at ≤ 500 ⌝ }
 {
     octets::put_u8(out, at, value.is_closed() as u8);
     octets::put_u8(out, at + 1, value.is_terminal() as u8);
     octets::put_u8(out, at + 2, value.is_reclaiming() as u8);
 }
 
-// Its key, its entry: 44 bytes.
+// Its key's and its entry's: 44 bytes.
 pub(crate) fn put_value(value: FenceCookieValue, out: &mut [u8], at: usize)
-    requires { ⌜ at ≤ 65900 ⌝ }
+    requires { ⌜ at ≤ 300 ⌝ }
 {
     put_key(value.key(), out, at);
     put_entry(value.entry(), out, at + 16);
@@ -76,7 +74,7 @@ pub(crate) fn put_value(value: FenceCookieValue, out: &mut [u8], at: usize)
 
 // Family, address, port: 19 bytes.
 pub(crate) fn put_endpoint(value: ProtectedEndpoint, out: &mut [u8], at: usize)
-    requires { ⌜ at ≤ 66000 ⌝ }
+    requires { ⌜ at ≤ 400 ⌝ }
 {
     let address = value.address;
     let first = octets::get_u64_le(&address, 0);
@@ -87,45 +85,20 @@ pub(crate) fn put_endpoint(value: ProtectedEndpoint, out: &mut [u8], at: usize)
     octets::put_u16_le(out, at + 17, value.port());
 }
 
-// Its endpoint, root cgroup, capacity: 31 bytes.
-pub(crate) fn put_config(value: FenceConfig, out: &mut [u8], at: usize)
-    requires { ⌜ at ≤ 65900 ⌝ }
-{
-    put_endpoint(value.endpoint(), out, at);
-    octets::put_u64_le(out, at + 19, value.root_cgroup_id().0);
-    octets::put_u32_le(out, at + 27, value.capacity());
-}
-
-// Its current and mutation records, whether an entry is present, and that entry, or zeros: 79 bytes.
-pub(crate) fn put_inspection(value: FenceInspection, out: &mut [u8], at: usize)
-    requires { ⌜ at ≤ 65800 ⌝ }
-{
-    put_current(value.current(), out, at);
-    put_mutation(value.mutation(), out, at + 18);
-    put_inspected(value.entry(), out, at + 34);
-}
-
-fn put_inspected(entry: InspectedEntry, out: &mut [u8], at: usize)
-    requires { ⌜ at ≤ 65850 ⌝ }
+// An inspection's entry: 1 and its cookie value's, or 0 where there is none. How long that is.
+pub(crate) fn put_inspected(entry: InspectedEntry, out: &mut [u8], at: usize) -> usize
+    requires { ⌜ at ≤ 200 ⌝ }
+    ensures { λ r. ⌜ r ≤ 45 ⌝ }
 {
     match entry {
-        InspectedEntry::Absent => put_zeros(out, at),
+        InspectedEntry::Absent => {
+            octets::put_u8(out, at, 0);
+            1
+        }
         InspectedEntry::Present(value) => {
             octets::put_u8(out, at, 1);
             put_value(value, out, at + 1);
+            45
         }
     }
-}
-
-// 45 zeros.
-fn put_zeros(out: &mut [u8], at: usize)
-    requires { ⌜ at ≤ 66000 ⌝ }
-{
-    octets::put_u8(out, at, 0);
-    octets::put_u64_le(out, at + 1, 0);
-    octets::put_u64_le(out, at + 9, 0);
-    octets::put_u64_le(out, at + 17, 0);
-    octets::put_u64_le(out, at + 25, 0);
-    octets::put_u64_le(out, at + 33, 0);
-    octets::put_u32_le(out, at + 41, 0);
 }

@@ -9,13 +9,15 @@ mod constructors;
 mod fields;
 mod gates;
 mod leaves;
+mod lent;
 mod packets;
+mod parts;
 mod verdicts;
 
 use libc::STDERR_FILENO;
 use libc::STDIN_FILENO;
 use libc::STDOUT_FILENO;
-ghost use Rattle.octets.specs.Words.{_<_, _≤_, length};
+ghost use Rattle.octets.specs.Words.{_<_, _≤_, _≡_, length};
 
 // More blocks than any stream has: so the loop over them is seen to end.
 const BLOCKS: u64 = 1_000_000_000_000;
@@ -61,18 +63,10 @@ fn take_block() -> bool {
     }
     let mut space = [0u8; 65536];
     let block: &mut [u8] = &mut space;
-    if !fill(block, size) {
+    if io::read_full(STDIN_FILENO, &mut block[0..size]) != size {
         return complain(b"beside: the stream ends inside a block\n");
     }
-    answer_block(block, size)
-}
-
-// Reads `size` bytes to the start of `block`.
-fn fill(block: &mut [u8], size: usize) -> bool {
-    if block.len() < size {
-        return false;
-    }
-    io::read_full(STDIN_FILENO, &mut block[0..size]) == size
+    answer_all(parts::front(block, size))
 }
 
 // Where the query that begins at `at` ends, or 0 where it is cut.
@@ -95,10 +89,7 @@ fn query_end(block: &[u8], at: usize) -> usize
 
 // Writes the answers that were gathered.
 fn flush(out: &[u8], used: usize) -> bool {
-    if out.len() < used {
-        return false;
-    }
-    if io::write_all(STDOUT_FILENO, &out[0..used]) {
+    if io::write_all(STDOUT_FILENO, parts::front(out, used)) {
         return true;
     }
     complain(b"beside: the answers could not be written\n")
@@ -106,7 +97,7 @@ fn flush(out: &[u8], used: usize) -> bool {
 
 // Answers the query that begins at `at`, after `used` bytes of gathered answers.
 fn answer_one(block: &[u8], at: usize, out: &mut [u8], used: usize) -> Step
-    requires { ⌜ (at < length (now block)) × (used ≤ 65024) ⌝ }
+    requires { ⌜ (at < length (now block)) × ((used ≤ 65024) × (length (now out) ≡ 65536)) ⌝ }
     ensures { λ r. ⌜ r .used ≤ 65024 ⌝ }
 {
     let start = at + 3;
@@ -116,7 +107,11 @@ fn answer_one(block: &[u8], at: usize, out: &mut [u8], used: usize) -> Step
         complain(b"beside: a query is cut\n");
         return Step { at: 0, used: 0 };
     }
-    let n = answer(octets::get_u8(block, at), &block[start..end], out, used);
+    let n = answer(
+        octets::get_u8(block, at),
+        &block[start..end],
+        &mut out[used..],
+    );
     if n == 0 {
         flush(out, used);
         complain(b"beside: a query has no such kind or length\n");
@@ -133,14 +128,6 @@ fn answer_one(block: &[u8], at: usize, out: &mut [u8], used: usize) -> Step
     } else {
         Step { at: 0, used: 0 }
     }
-}
-
-// Answers the queries of a block, which are the first `size` bytes of `space`.
-fn answer_block(space: &[u8], size: usize) -> bool {
-    if space.len() < size {
-        return false;
-    }
-    answer_all(&space[0..size])
 }
 
 // Answers the queries of a block.
@@ -160,78 +147,15 @@ fn answer_all(block: &[u8]) -> bool {
     flush(out, used)
 }
 
-// Puts the answer to a query at a place of `out`: how long it is, or 0 where there is no such query.
-fn answer(kind: u8, body: &[u8], out: &mut [u8], at: usize) -> usize
-    requires { ⌜ at ≤ 65536 ⌝ }
+// Puts the answer to a query at the start of `out`: how long it is, or 0 where there is no such query.
+fn answer(kind: u8, body: &[u8], out: &mut [u8]) -> usize
     ensures { λ r. ⌜ r ≤ 512 ⌝ }
 {
     match kind {
-        0..=15 => answer_leaf(kind, body, out, at),
-        16..=31 => answer_codec(kind, body, out, at),
-        32..=47 => answer_constructor(kind, body, out, at),
-        48 => verdicts::answer_verdict(body, out, at),
-        56 => gates::answer_gate(body, out, at),
-        _ => 0,
-    }
-}
-
-fn answer_leaf(kind: u8, body: &[u8], out: &mut [u8], at: usize) -> usize
-    requires { ⌜ at ≤ 65536 ⌝ }
-    ensures { λ r. ⌜ r ≤ 512 ⌝ }
-{
-    match kind {
-        1 => leaves::answer_deadline(body, out, at),
-        2 => leaves::answer_ipv4(body, out, at),
-        3 => leaves::answer_ipv6(body, out, at),
-        4 => leaves::answer_matches_ipv4(body, out, at),
-        5 => leaves::answer_matches_ipv6(body, out, at),
-        8 => packets::answer_packet(body, out, at),
-        _ => 0,
-    }
-}
-
-fn answer_codec(kind: u8, body: &[u8], out: &mut [u8], at: usize) -> usize
-    requires { ⌜ at ≤ 65536 ⌝ }
-    ensures { λ r. ⌜ r ≤ 512 ⌝ }
-{
-    match kind {
-        16 => codecs::decode_current(body, out, at),
-        17 => codecs::decode_mutation(body, out, at),
-        18 => codecs::decode_key(body, out, at),
-        19 => codecs::decode_entry(body, out, at),
-        20 => codecs::decode_value(body, out, at),
-        21 => codecs::decode_config(body, out, at),
-        22 => codecs::decode_inspection(body, out, at),
-        24 => codecs::encode_current(body, out, at),
-        25 => codecs::encode_mutation(body, out, at),
-        26 => codecs::encode_key(body, out, at),
-        27 => codecs::encode_entry(body, out, at),
-        28 => codecs::encode_value(body, out, at),
-        29 => codecs::encode_config(body, out, at),
-        30 => codecs::encode_inspection(body, out, at),
-        _ => 0,
-    }
-}
-
-fn answer_constructor(kind: u8, body: &[u8], out: &mut [u8], at: usize) -> usize
-    requires { ⌜ at ≤ 65536 ⌝ }
-    ensures { λ r. ⌜ r ≤ 512 ⌝ }
-{
-    match kind {
-        32 => constructors::current_initial(body, out, at),
-        33 => constructors::lifecycle_open(body, out, at),
-        34 => constructors::retirement_closed(body, out, at),
-        35 => constructors::registered(body, out, at),
-        36 => constructors::mutation_initial(body, out, at),
-        37 => constructors::mutation(body, out, at),
-        38 => constructors::key(body, out, at),
-        39 => constructors::initial_closed(body, out, at),
-        40 => constructors::active(body, out, at),
-        41 => constructors::terminal_closed(body, out, at),
-        42 => constructors::reclaiming(body, out, at),
-        43 => constructors::value(body, out, at),
-        44 => constructors::config(body, out, at),
-        45 => constructors::inspection(body, out, at),
+        0..=5 => leaves::answer_leaf(kind, body, out),
+        8 | 16..=30 | 56 => lent::answer_lent(kind, body, out),
+        32..=45 => constructors::answer_constructor(kind, body, out),
+        48 => verdicts::answer_verdict(body, out),
         _ => 0,
     }
 }

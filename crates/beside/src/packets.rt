@@ -1,18 +1,18 @@
-// Query 8: an endpoint, and a packet of any length. The answer is the disposition's number and the number of extension headers passed.
-use crate::leaves;
-ghost use Rattle.octets.specs.Words.{_≤_};
+// Query 8: the classifier for C, `threadwicket_classify_raw`. After `room` come an endpoint (family, address 16, port) and a packet. What is
+// lent is the reading: the number of extension headers passed (u64).
+use crate::lent;
+use crate::parts;
 
-pub(crate) fn answer_packet(body: &[u8], out: &mut [u8], at: usize) -> usize
-    requires { ⌜ at ≤ 65536 ⌝ }
-    ensures { λ r. ⌜ r ≤ 512 ⌝ }
-{
+pub(crate) fn classify(body: &[u8], reading: &mut [u8]) -> u32 {
     if body.len() < 19 {
-        return 0;
+        return lent::NO_QUERY;
     }
-    let endpoint = leaves::endpoint_of(body);
-    let reading = packet::classify_l3_udp_source(&body[19..], endpoint);
-    let disposition = reading.disposition;
-    octets::put_u8(out, at, disposition.number());
-    octets::put_u8(out, at + 1, reading.headers);
-    2
+    let address = parts::array16(body, 1);
+    export::threadwicket_classify_raw(
+        &body[19..],
+        octets::get_u8(body, 0),
+        &address,
+        octets::get_u16_le(body, 17),
+        reading,
+    )
 }

@@ -8,7 +8,6 @@ use units::ControlEpoch;
 use units::DurableFenceToken;
 use units::SocketCookie;
 use verdict::FenceAuthoritySnapshot;
-use verdict::FenceVerdict;
 use verdict::PacketFenceContext;
 use verdict::RegisteredEntry;
 ghost use Rattle.octets.specs.Words.{_≤_};
@@ -54,22 +53,14 @@ fn authority_of(body: &[u8]) -> FenceAuthoritySnapshot {
     )
 }
 
-// A verdict: its slot, and whether the packet must be dropped.
-pub(crate) fn put_verdict(verdict: FenceVerdict, out: &mut [u8], at: usize)
-    requires { ⌜ at ≤ 65536 ⌝ }
-{
-    octets::put_u8(out, at, verdict.slot_number());
-    octets::put_u8(out, at + 1, verdict.must_drop() as u8);
-}
-
-pub(crate) fn answer_verdict(body: &[u8], out: &mut [u8], at: usize) -> usize
-    requires { ⌜ at ≤ 65536 ⌝ }
+pub(crate) fn answer_verdict(body: &[u8], out: &mut [u8]) -> usize
     ensures { λ r. ⌜ r ≤ 512 ⌝ }
 {
     if body.len() != 61 {
         return 0;
     }
     let verdict = verdict::decide_egress(context_of(body), authority_of(body));
-    put_verdict(verdict, out, at);
+    octets::put_u8(out, 0, verdict.slot_number());
+    octets::put_u8(out, 1, verdict.must_drop() as u8);
     2
 }

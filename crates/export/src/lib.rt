@@ -1,13 +1,13 @@
 // The classifier, the refresh-deadline check and the seven records for programs in other languages: `rt staticlib export` writes
 // target/staticlib/libexport.a, for x86-64. A `&[u8]` passes as a pointer and a length, a reference to an array as a pointer.
 // include/threadwicket.h has the declarations for C.
-mod config_view;
-mod cookie_value;
-mod current;
-mod entry;
-mod inspection_view;
-mod key;
-mod mutation;
+pub mod config_view;
+pub mod cookie_value;
+pub mod current;
+pub mod entry;
+pub mod inspection_view;
+pub mod key;
+pub mod mutation;
 mod view;
 
 use endpoint::ProtectedEndpoint;

@@ -1,8 +1,8 @@
 -- `put_bytes`: a byte a turn, and the slice keeps its length. Assumes nothing.
 use Rattle.octets.specs.Words.{_-_, _≤_, _≡_, length}
 use Rattle.octets.proofs.Tools.{needs}
-use Rattle.beside.proofs.gates.put_bytes.Statement.{statement}
-use Rattle.beside.proofs.gates.put_bytes.Tie as tie
+use Rattle.beside.proofs.parts.put_bytes.Statement.{statement}
+use Rattle.beside.proofs.parts.put_bytes.Tie as tie
 
 abbrev Inv-loop : tie.InvT-loop
 Inv-loop from table₀ at i₀ table i = (i ≤ length from) × (length table ≡ length table₀)
