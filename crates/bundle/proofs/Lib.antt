@@ -1,13 +1,9 @@
--- The laws of `bundle`: feeds, frames, the cursor, what a line prints, how long a listing is, a listing that is under way, and then what else is promised of
--- listings (specs/Promises.antt), the examples, and the answer as the contract's alone. Assumes nothing.
+-- The laws of `bundle`: feeds, frames, the cursor, what a line prints, how long a listing is, a listing that is under way, and the answer
+-- as the contract's alone. Assumes nothing.
 pub mod FeedLaws
 pub mod FrameLaws
 pub mod DeskLaws
 pub mod Names
 pub mod Bound
 pub mod ListingLaws
-pub mod EachLine
-pub mod Earlier
-pub mod IsolationLaw
-pub mod Case
 pub mod Unique

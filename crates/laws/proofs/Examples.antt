@@ -6,7 +6,7 @@ use Rattle.deadline.specs.Deadline.{refreshDecision}
 use Rattle.records.specs.Mutation.{claimFits}
 use Rattle.records.specs.Current.{currentListed, tokenFits, cookieFits}
 use Rattle.packet.specs.Reading.{sortOf, udpOf, passOf, countedOf, fragmentOf, stepOf, walkOf, ipv4Head, ipv6Head, known, classifyOf}
-use Rattle.packet.specs.Pinned.{endpoint4500, A}
+use Rattle.packet.specs.Example.{endpoint4500, A}
 use Rattle.laws.specs.Examples.{examples, holds, all, ExamplesHold}
 
 pub examples-hold : ExamplesHold

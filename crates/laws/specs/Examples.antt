@@ -8,7 +8,7 @@ use Rattle.records.specs.Mutation.{mutationCodec}
 use Rattle.records.specs.Current.{currentCodec}
 use Rattle.packet.specs.Answers.{dispositionNumber}
 use Rattle.packet.specs.Reading.{Disposition, protected, unrelated, indeterminate, classifyOf}
-use Rattle.packet.specs.Pinned.{endpoint4500, A}
+use Rattle.packet.specs.Example.{endpoint4500, A}
 
 pub data Example : Type 0 where
   -- a packet reads as d

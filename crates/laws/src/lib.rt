@@ -1,5 +1,6 @@
-// What spans the layers: document 01's examples, computed from the definitions of four crates; there and back of the images for C, from
-// the contracts of `export` alone; and where each law stands. There is no code here.
+// What spans the layers: document 01's examples, computed from the definitions of four crates; the gate against `decide_egress`, and calls
+// at the edges of its rules; what is promised of listings; there and back of the images for C, from the contracts of `export` alone; and
+// where each law stands. There is no code here: what no edit of a lower crate needs is proved once, above it.
 //
 // The laws, by name:
 //
@@ -15,23 +16,24 @@
 //   (`FUNCTION-determined`, `RECORD-FUNCTION-determined`), and no two cases of an enum have one number (`decision-injective`,
 //   `disposition-injective`, `slot-injective`).
 // - Reading a packet. Stated in `packet/specs/Promises.antt`: 0 to 4 headers are passed (`count-at-most-4` in `packet/proofs/Count.antt`),
-//   the sorting of the next-header value covers each of 256 values once (`sorted-once` in `Sorting.antt`), and a packet's answer depends
-//   on its named places alone (`isolation` in `Isolation.antt`). Stated in `packet/specs/Pinned.antt`: the places of some packets, A among
-//   them, and that none can be left out (`places-pinned`, `none-left-out` in `Pinned.antt`).
+//   and the sorting of the next-header value covers each of 256 values once (`sorted-once` in `Sorting.antt`).
 // - The gate. Stated in `gate/specs/Promises.antt`: the first rule that applies answers (`first-that-applies`, `some-rule-applies`,
 //   `rule-answers` in `gate/proofs/Rules.antt`), the rules bear 01's numbers in 01's order (`numbered-in-order`), and the header count is at
-//   most 4 (`count-at-most-4`). Stated in `gate/specs/Examples.antt`: each of the thirteen answers some call, and calls at the rules' edges
-//   (`every-rule-answers`, `edges-hold` in `Examples.antt`). Wherever the bytes decode the gate is `decide_egress` (`is-decide-egress` in
-//   `DecidedLaw.antt`, stated in `gate/specs/Decided.antt`). A record that is found has forty bytes and stands under the key (`first-found`
-//   in `TableLaws.antt`).
-// - Isolation, demand 3. Stated in `gate/specs/Isolation.antt`: alike calls have one view (`same-view` in `gate/proofs/IsolationLaw.antt`),
-//   so the same rule answers (`isolated-rule`) with the same answer (`isolated`). With `alike`, two calls that it is about, and the gate
-//   that drops all, which is isolated and refused (`drops-all-is-isolated`, `drops-all-is-refused` in `Examples.antt`).
-// - The listing. Stated in `bundle/specs/Promises.antt`: one line for each packet (`lines-then-last`, `one-line-each` in `EachLine.antt`),
-//   earlier lines stay (`earlier-calls-stay`, `earlier-lines-stay`, `earlier-listing-stays` in `Earlier.antt`),
-//   isolation (`isolated-line`, `isolated-sheet`, `isolated-listing` in `IsolationLaw.antt`), no listing is longer than the judge's
-//   output (`no-longer` in `Bound.antt`), 01's case and the edges of frames (`case-listed`, `edges-listed` in `Case.antt`).
-//   Stated in `text/specs/Promises.antt`: numbers read back (`decimals-read-back` in `text/proofs/Digits.antt`).
+//   most 4 (`count-at-most-4`). A record that is found has forty bytes and stands under the key (`first-found` in `TableLaws.antt`). Stated
+//   in `laws/specs/Calls.antt`: each of the thirteen answers some call, and calls at the rules' edges (`every-rule-answers`, `edges-hold`
+//   in `laws/proofs/Calls.antt`). Wherever the bytes decode the gate is `decide_egress` (`is-decide-egress` in `DecidedLaw.antt`, stated in
+//   `laws/specs/Decided.antt`).
+// - Isolation, demand 3. Stated in `isolation/specs/Isolation.antt`: a packet's answer depends on its named places alone
+//   (`isolated-reading` in `isolation/proofs/Reading.antt`); alike calls have one view (`same-view` in `Calls.antt`), so the same rule answers
+//   (`isolated-rule`) with the same answer (`isolated`). Stated in `isolation/specs/Pinned.antt`: the places of some packets, A among them, and
+//   that none can be left out (`places-pinned`, `none-left-out` in `Pinned.antt`). Two calls that it is about, and the gate that drops all,
+//   which is isolated and refused: `alike`, `drops-all-is-isolated`, `drops-all-is-refused` in `laws/proofs/Calls.antt`.
+// - The listing. Stated in `laws/specs/Listings.antt`: one line for each packet (`lines-then-last`, `one-line-each` in
+//   `laws/proofs/EachLine.antt`), earlier lines stay (`earlier-calls-stay`, `earlier-lines-stay`, `earlier-listing-stays` in `Earlier.antt`),
+//   isolation (`isolated-line`, `isolated-sheet`, `isolated-listing` in `Alike.antt`); in `laws/specs/Bundles.antt`: 01's case and the edges
+//   of frames (`case-listed`, `edges-listed` in `Bundles.antt`). Stated in `bundle/specs/Promises.antt`: no listing is longer than the judge's
+//   output (`no-longer` in `bundle/proofs/Bound.antt`); in `text/specs/Promises.antt`: numbers read back (`decimals-read-back` in
+//   `text/proofs/Digits.antt`).
 // - Images for C. Stated in `laws/specs/Images.antt`: what decoding gives, encoding takes back to the same bytes, and the other way round
 //   (`seven-rounds` in `laws/proofs/RoundTrips.antt`, a field for each record).
 // - Examples. `examples-hold` in `laws/proofs/Examples.antt`, stated in `laws/specs/Examples.antt`: the list that document 01 asks to be

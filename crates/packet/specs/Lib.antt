@@ -5,7 +5,6 @@ pub mod Rfc8200
 pub mod Rfc4302
 pub mod Reading
 pub mod Answers
-pub mod Places
 pub mod Promises
-pub mod Pinned
+pub mod Example
 pub mod Inner

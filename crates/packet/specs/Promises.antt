@@ -1,9 +1,8 @@
 -- What is claimed of reading a packet beside the contracts, from document 01. Each claim is proved in proofs/. Assumes nothing.
-use Rattle.octets.specs.Words.{ℕ, suc, _<_, _≤_, _≡_, cond, List, [], _∷_, length}
-use Rattle.octets.specs.Lists.{among, bytesAt}
+use Rattle.octets.specs.Words.{ℕ, suc, _<_, _≤_, _≡_, cond, List, [], _∷_}
+use Rattle.octets.specs.Lists.{among}
 use Rattle.endpoint.specs.declared.ProtectedEndpoint.{ProtectedEndpoint}
 use Rattle.packet.specs.Reading.{Disposition, settled, stop, sortOf, udpOf, walkOf, ipv4Of, ipv6Head, ipv6Of, classifyOf}
-use Rattle.packet.specs.Places.{places}
 
 -- ---- the count
 
@@ -41,9 +40,3 @@ orOther (k ∷ ks) = k ∷ ks
 -- each value is in one of the six lines, and in one only; the sorting gives that line's class
 abbrev pub SortedOnce : Type 0
 SortedOnce = (n : ℕ) → n < 256 → orOther (having 0 n lines) ≡ sortOf n ∷ []
-
--- ---- demand 3
-
--- two packets of one length that agree at the first one's places have one answer, the header count with it
-abbrev pub Isolation : Type 0
-Isolation = (s t : List ℕ) (p : ProtectedEndpoint) → length s ≡ length t → bytesAt s (places s p) ≡ bytesAt t (places s p) → classifyOf s p ≡ classifyOf t p

@@ -7,10 +7,10 @@ use lib.ListN.{List·getD-eq-default}
 use Rattle.octets.specs.Octets.{octetsAt, le}
 use Rattle.octets.specs.Lists.{span, inside, bytesAt}
 use Rattle.endpoint.specs.declared.ProtectedEndpoint.{ProtectedEndpoint}
 use Rattle.packet.specs.Rfc791.{version}
 use Rattle.packet.specs.Reading.{Disposition, unrelated, indeterminate, Outcome, settled, onward, follow, entered, sortOf, udpOf, passOf, countedOf, fragmentOf, stepOf, stop, passed, walkOf, ipv4Head, ipv4Of, ipv6Head, ipv6Of, known, classifyOf}
-use Rattle.packet.specs.Places.{udpPlaces, stepPlaces, walkPlaces, ipv4Rest, ipv6Rest, named}
-use Rattle.packet.specs.Promises.{Isolation}
+use Rattle.isolation.specs.Places.{udpPlaces, stepPlaces, walkPlaces, ipv4Rest, ipv6Rest, named}
+use Rattle.isolation.specs.Isolation.{IsolatedReading}
 
 module _ (s t : List ℕ) where
   -- s and t have the same bytes at the places l
@@ -130,5 +130,5 @@ module _ (s t : List ℕ) where
       (choice (eqb (version s) 4) _ _ (first .1) (ipv4-same e v p) (λ h′.
       choice (eqb (version s) 6) _ _ h′ (ipv6-same e v p) (λ _. refl))))
 
-pub isolation : Isolation
-isolation s t p e h = classify-same s t e p (same-inside s t e (named s p) h)
+pub isolated-reading : IsolatedReading
+isolated-reading s t p e h = classify-same s t e p (same-inside s t e (named s p) h)

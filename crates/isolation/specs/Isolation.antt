@@ -1,12 +1,23 @@
 -- Demand 3: what the gate's answer may depend on. Two calls have the same configuration, attachment number, socket, cookie, current
 -- record and boot time. All else may differ: of the packet its payload, its options, its destination, its checksums, every byte that
 -- is at no named place; of the table the records of other sockets and of other tokens, their number and their order, and later records
--- under the same key. Then the two calls have one view, so that rule, verdict and header count are the same. Assumes nothing.
-use Rattle.octets.specs.Words.{_≡_, true, length, take}
+-- under the same key. Then the two calls have one view, so that rule, verdict and header count are the same. It rests on what the
+-- classifier's answer may depend on. Assumes nothing.
+use Rattle.octets.specs.Words.{ℕ, _≡_, true, List, length, take}
 use Rattle.octets.specs.Lists.{bytesAt}
-use Rattle.packet.specs.Places.{places}
+use Rattle.endpoint.specs.declared.ProtectedEndpoint.{ProtectedEndpoint}
+use Rattle.packet.specs.Reading.{classifyOf}
+use Rattle.isolation.specs.Places.{places}
 use Rattle.gate.specs.Table.{admissible}
 use Rattle.gate.specs.Gate.{Call, endpoint, sought, viewOf, answering, gateOf}
+
+-- ---- of the classifier
+
+-- two packets of one length that agree at the first one's places have one answer, the header count with it
+abbrev pub IsolatedReading : Type 0
+IsolatedReading = (s t : List ℕ) (p : ProtectedEndpoint) → length s ≡ length t → bytesAt s (places s p) ≡ bytesAt t (places s p) → classifyOf s p ≡ classifyOf t p
+
+-- ---- of the gate
 
 pub record Alike (a b : Call) : Type 0 where
   -- the same configuration, attachment number, socket, cookie, current record and boot time

@@ -3,8 +3,9 @@
 use Rattle.octets.specs.Words.{ℕ, _≡_, List, [], _∷_, _++_, map, replicate, length, set}
 use Rattle.octets.specs.Lists.{span}
 use Rattle.endpoint.specs.declared.ProtectedEndpoint.{ProtectedEndpoint}
 use Rattle.packet.specs.Reading.{classifyOf}
-use Rattle.packet.specs.Places.{places}
+use Rattle.packet.specs.Example.{endpoint4500, A}
+use Rattle.isolation.specs.Places.{places}
 
 -- a packet read against an endpoint, its named places, and a byte that matters at each of them
 pub record Pin : Type 0 where
@@ -12,15 +13,6 @@ pub record Pin : Type 0 where
   pub endpoint : ProtectedEndpoint
   pub named : List ℕ
   pub other : ℕ
-
--- 192.0.2.10:4500, and 01's packet A from there
-unfoldable pub endpoint4500 : ProtectedEndpoint
-endpoint4500 = record { family = 4; address = 192 ∷ 0 ∷ 2 ∷ 10 ∷ replicate 12 0; port = 4500 }
-
-unfoldable pub A : List ℕ
-A =
-    0x45 ∷ 0x00 ∷ 0x00 ∷ 0x1c ∷ 0x00 ∷ 0x00 ∷ 0x00 ∷ 0x00 ∷ 0x40 ∷ 0x11 ∷ 0x00 ∷ 0x00 ∷ 0xc0 ∷ 0x00 ∷ 0x02 ∷ 0x0a ∷
-    0xc6 ∷ 0x33 ∷ 0x64 ∷ 0x01 ∷ 0x11 ∷ 0x94 ∷ 0x00 ∷ 0x35 ∷ 0x00 ∷ 0x08 ∷ 0x00 ∷ 0x00 ∷ []
 
 -- 2001:db8::10, port 4500, and a packet from there whose first header has the value n
 abbrev pub address6 : List ℕ

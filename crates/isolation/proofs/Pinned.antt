@@ -5,10 +5,11 @@ use Rattle.octets.proofs.Tools.{refl, sym, ap, _∙_, true≢false, eq-eqb}
 use Rattle.octets.proofs.Choices.{both}
 use Rattle.octets.specs.Octets.{octetsAt, le, be, sameOctets}
 use Rattle.octets.specs.Lists.{inside}
 use Rattle.packet.specs.Reading.{Answer, sortOf, udpOf, passOf, countedOf, fragmentOf, stepOf, walkOf, ipv4Head, ipv6Head, known, classifyOf}
-use Rattle.packet.specs.Places.{udpPlaces, stepPlaces, walkPlaces, named}
+use Rattle.isolation.specs.Places.{udpPlaces, stepPlaces, walkPlaces, named}
 use Rattle.packet.specs.Answers.{dispositionNumber}
-use Rattle.packet.specs.Pinned.{Pin, endpoint4500, A, pinned, Each, Matters, PlacesPinned, NoneLeftOut}
+use Rattle.packet.specs.Example.{endpoint4500, A}
+use Rattle.isolation.specs.Pinned.{Pin, pinned, Each, Matters, PlacesPinned, NoneLeftOut}
 
 differ : Answer → Answer → Bool
 differ r q = not (eqb (dispositionNumber (r .disposition)) (dispositionNumber (q .disposition)) && eqb (r .headers) (q .headers))

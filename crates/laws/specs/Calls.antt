@@ -7,11 +7,11 @@ use Rattle.config.specs.Config.{config, configCodec}
 use Rattle.records.specs.Current.{current, currentCodec}
 use Rattle.records.specs.CookieValue.{cookieValue, cookieValueCodec}
 use Rattle.records.specs.declared.entry.FenceEntryState.the-variants.{Active, TerminalClosed}
-use Rattle.packet.specs.Pinned.{endpoint4500, A}
+use Rattle.packet.specs.Example.{endpoint4500, A}
 use Rattle.verdict.specs.declared.CounterSlot.the-variants.{Slot}
 use Rattle.gate.specs.declared.Socket.{Socket}
 use Rattle.gate.specs.Gate.{Call, given, answering, headersOf, Answer, gateOf}
-use Rattle.gate.specs.Isolation.{Alike}
+use Rattle.isolation.specs.Isolation.{Alike}
 
 -- 01's configuration with root 7, current record with token 3 and cookie 9, and record of cookie 9 and token 3 until 1000
 unfoldable pub configured : List ℕ

@@ -6,17 +6,17 @@ use Rattle.codec.specs.Codec.{decodeValue}
 use Rattle.config.specs.Config.{configCodec}
 use Rattle.records.specs.Current.{currentCodec}
 use Rattle.packet.specs.Reading.{classifyOf}
-use Rattle.packet.proofs.Isolation as packet
+use Rattle.isolation.proofs.Reading.{isolated-reading}
 use Rattle.verdict.specs.Verdict.{slotOf}
 use Rattle.gate.specs.Gate.{Call, decodes, matches, configuration, endpoint, reading, unread, viewOf, rules, firstRule, answering, headersOf, gateOf}
-use Rattle.gate.specs.Isolation.{Alike, SameView, SameRule, Isolated}
+use Rattle.isolation.specs.Isolation.{Alike, SameView, SameRule, Isolated}
 
 module _ (a b : Call) (h : Alike a b) where
   same-config : configuration a ≡ configuration b
   same-config = ap (decodeValue configCodec) (h .config)
 
   same-reading : reading a ≡ reading b
-  same-reading = packet.isolation (a .packet) (b .packet) (endpoint a) (h .long) (h .agree) ∙ ap (λ v. classifyOf (b .packet) (v .endpoint)) same-config
+  same-reading = isolated-reading (a .packet) (b .packet) (endpoint a) (h .long) (h .agree) ∙ ap (λ v. classifyOf (b .packet) (v .endpoint)) same-config
 
 pub same-view : SameView
 unfolding viewOf

@@ -2,11 +2,11 @@
 use Rattle.octets.specs.Words.{ℕ, _+_, _≡_, List, [], _∷_, _++_, length}
 use Rattle.octets.proofs.Tools.{refl, ap, _∙_, le-ltb}
 use Rattle.gate.specs.Gate.{Call, gateOf}
-use Rattle.gate.proofs.IsolationLaw.{isolated-rule, isolated}
+use Rattle.isolation.proofs.Calls.{isolated-rule, isolated}
 use Rattle.bundle.specs.Feed.{Ending}
 use Rattle.bundle.specs.Frames.{Place, bundleOf}
 use Rattle.bundle.specs.Listing.{line, linesBy, verdictLine, longest, listing}
-use Rattle.bundle.specs.Promises.{AllAlike, IsolatedLine, IsolatedSheet, IsolatedListing}
+use Rattle.laws.specs.Listings.{AllAlike, IsolatedLine, IsolatedSheet, IsolatedListing}
 
 pub isolated-line : IsolatedLine
 unfolding verdictLine gateOf

@@ -9,14 +9,14 @@ use lib.Seq.{take-append-seam}
 use native.Mathlib.Nat.{add-zero}
 use Rattle.octets.specs.Octets.{octetsAt, le}
 use Rattle.gate.specs.Gate.{Call}
 use Rattle.bundle.specs.Feed.{Feed, Step, stop, skip, emit, onward, noCall, callThen, Less}
 use Rattle.bundle.specs.Frames.{lengthAt, kindAt, past, frameOf, frameAt, State, Place, initial, stepOf, leftAt, feedAt, bundleOf}
 use Rattle.bundle.specs.Listing.{Line, lastLine, sheet, verdictLine, longest, listing}
-use Rattle.bundle.specs.Promises.{callLines, EarlierCallsStay, EarlierLinesStay, EarlierListingStays}
+use Rattle.laws.specs.Listings.{callLines, EarlierCallsStay, EarlierLinesStay, EarlierListingStays}
 use Rattle.bundle.specs.Kinds.{Frame}
 use Rattle.bundle.specs.Kinds as frame
 use Rattle.bundle.proofs.FrameLaws.{size, left-size, frames-fall, feed-at}
-use Rattle.bundle.proofs.EachLine.{lines-then-last}
+use Rattle.laws.proofs.EachLine.{lines-then-last}
 
 octets-left : (s t : List ℕ) (at n : ℕ) → at + n ≤ length s → octetsAt (s ++ t) at n ≡ octetsAt s at n
 unfolding octetsAt

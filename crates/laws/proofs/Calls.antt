@@ -9,12 +9,12 @@ use Rattle.config.specs.Config.{capacityFits}
 use Rattle.records.specs.Current.{currentListed, tokenFits, cookieFits}
 use Rattle.records.specs.Entry.{stateListed, deadlineFits, epochFits}
 use Rattle.packet.specs.Reading.{sortOf, udpOf, passOf, countedOf, fragmentOf, stepOf, walkOf, ipv4Head, ipv6Head, known, classifyOf}
-use Rattle.packet.specs.Pinned.{endpoint4500, A}
-use Rattle.packet.specs.Places.{udpPlaces, named}
+use Rattle.packet.specs.Example.{endpoint4500, A}
+use Rattle.isolation.specs.Places.{udpPlaces, named}
 use Rattle.verdict.specs.declared.CounterSlot.the-variants.{Slot}
 use Rattle.gate.specs.Table.{admissible, recordsIn, records, isUnder, under, firstOf}
 use Rattle.gate.specs.Gate.{viewOf, rules, answering, sameAddress, matches, headersOf, gateOf}
-use Rattle.gate.specs.Examples.{configured, open9, active9, unbound, witnesses, bound, loopback, configured6, B, later9, active8, edges, here, there, dropsAll, EveryRuleAnswers, EdgesHold, SomeAreAlike, DropsAllIsIsolated, DropsAllIsRefused}
+use Rattle.laws.specs.Calls.{configured, open9, active9, unbound, witnesses, bound, loopback, configured6, B, later9, active8, edges, here, there, dropsAll, EveryRuleAnswers, EdgesHold, SomeAreAlike, DropsAllIsIsolated, DropsAllIsRefused}
 
 pub every-rule-answers : EveryRuleAnswers
 unfolding witnesses endpoint4500 A configured open9 active9 unbound octetsAt le be leBytes beBytes allZero sameOctets decodeNumber decodeValue usableIpv4 usableIpv6 capacityFits addressUsable spareZero currentListed tokenFits cookieFits stateListed deadlineFits epochFits sortOf udpOf passOf countedOf fragmentOf stepOf walkOf ipv4Head ipv6Head known classifyOf admissible recordsIn records isUnder under firstOf sameAddress matches viewOf rules answering

@@ -8,14 +8,14 @@ use Rattle.config.specs.Config.{capacityFits}
 use Rattle.records.specs.Current.{currentListed, tokenFits, cookieFits}
 use Rattle.records.specs.Entry.{stateListed, deadlineFits, epochFits}
 use Rattle.packet.specs.Reading.{sortOf, udpOf, passOf, countedOf, fragmentOf, stepOf as sorted, walkOf, ipv4Head, ipv6Head, known, classifyOf}
-use Rattle.packet.specs.Pinned.{A}
+use Rattle.packet.specs.Example.{A}
 use Rattle.text.specs.Text.{decimalIn}
 use Rattle.gate.specs.Table.{admissible, recordsIn, records, isUnder, under, firstOf}
 use Rattle.gate.specs.Gate.{viewOf, rules, answering, sameAddress, matches, headersOf}
 use Rattle.bundle.specs.Feed.{onward, readIn, read}
 use Rattle.bundle.specs.Frames.{exactly, frameOf, frameAt, callOf, stepOf, feedAt, bundleOf}
 use Rattle.bundle.specs.Listing.{nameOf, slotText, line, lastLine, linesBy, verdictLine, listing}
-use Rattle.bundle.specs.Examples.{configured, published, recorded, case, CaseListed, edges, EdgesListed}
+use Rattle.laws.specs.Bundles.{configured, published, recorded, case, CaseListed, edges, EdgesListed}
 
 pub case-listed : CaseListed
 unfolding case configured published recorded A octetsAt le be leBytes beBytes allZero sameOctets decodeNumber decodeValue usableIpv4 usableIpv6 capacityFits addressUsable spareZero currentListed tokenFits cookieFits stateListed deadlineFits epochFits sortOf udpOf passOf countedOf fragmentOf sorted walkOf ipv4Head ipv6Head known classifyOf admissible recordsIn records isUnder under firstOf viewOf rules answering sameAddress matches headersOf onward readIn read exactly frameOf frameAt callOf stepOf feedAt bundleOf decimalIn nameOf slotText line lastLine linesBy verdictLine listing

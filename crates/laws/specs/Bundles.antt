@@ -1,9 +1,9 @@
 -- Document 01's case, and bundles at the edges of the frames, each list under one statement. Assumes nothing.
 use Rattle.octets.specs.Words.{ℕ, _≡_, List, [], _∷_, _++_, map, length, replicate}
 use Rattle.octets.specs.Octets.{leBytes, beBytes}
-use Rattle.packet.specs.Pinned.{A}
+use Rattle.packet.specs.Example.{A}
 use Rattle.text.specs.Text.{ascii}
 use Rattle.bundle.specs.Listing.{listing}
 
 -- ---- the case
 
