@@ -12,10 +12,10 @@ use Rattle.verdict.specs.Verdict.{slotOf}
 use Rattle.verdict.specs.declared.FenceVerdict.{FenceVerdict}
 use Rattle.gate.specs.declared.Socket.{Socket}
 use Rattle.gate.specs.declared.Ruling.{Ruling}
-use Rattle.gate.specs.Table.{records, under, firstOf}
+use Rattle.table.specs.Table.{records, under, firstOf}
 use Rattle.gate.specs.Gate.{Call, decodes, matches, root, differs, reading, token, unread, View, viewOf, Rule, allow, rules, firstRule, answering, headersOf, gateOf, answerOf}
 use Rattle.gate.specs.Inner.Steps.{sourceOf, soughtRecord, from, numbered, registration, Ruled}
-use Rattle.gate.proofs.TableLaws.{first-found, held, first-held}
+use Rattle.table.proofs.TableLaws.{first-found, held, first-held}
 
 -- ---- the list
 

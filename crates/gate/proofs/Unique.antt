@@ -1,18 +1,13 @@
 -- The answer of each public function is its contract's alone. The gate's contract gives the slot and the count, and no two verdicts
--- have one slot. Of the search's answer, a part of the caller's table, its bytes and its place: a part has a ghost name besides, which
--- stands for nothing in the program. Assumes nothing.
-use Rattle.octets.specs.Words.{ℕ, _≡_, List}
-use Rattle.octets.proofs.Tools.{refl, sym, ap, _∙_}
+-- have one slot. Assumes nothing.
+use Rattle.octets.specs.Words.{_≡_}
+use Rattle.octets.proofs.Tools.{ap}
 use Rattle.octets.proofs.UniqueLaws.{as-told, as-numbered}
-use denote.Ref.{ptr, now}
-use Rattle.octets.specs.Determined.{Determined, DeterminedAs}
+use Rattle.octets.specs.Determined.{Determined}
 use Rattle.verdict.proofs.Unique.{slot-injective}
 use Rattle.gate.specs.Gate.{answerOf}
 use Rattle.gate.specs.declared.GateAnswer.{GateAnswer}
 use Rattle.gate.proofs as the
-
-pub find-record-determined : DeterminedAs the.find_record.Kinds.ps the.find_record.Kinds.r the.find_record.Reads.Learnt {S = λ κs. List ℕ × (ℕ × ℕ)} (λ κs x. (now x, ptr x))
-find-record-determined κs a x y u v p q = (λ i. ((p .bytes ∙ sym (q .bytes)) i, (p .place ∙ sym (q .place)) i), refl)
 
 pub matches-determined : Determined the.Socket.matches.Kinds.ps the.Socket.matches.Kinds.r the.Socket.matches.Reads.Learnt
 matches-determined κs a x y u v = as-told

@@ -19,7 +19,7 @@ use Rattle.verdict.specs.declared.FenceVerdict.the-variants.{PassUnrelated, All
 use Rattle.verdict.specs.declared.CounterSlot.{CounterSlot}
 use Rattle.gate.specs.declared.Socket.{Socket}
 use Rattle.gate.specs.declared.GateAnswer.{GateAnswer}
-use Rattle.gate.specs.Table.{admissible, records, under, firstOf}
+use Rattle.table.specs.Table.{admissible, records, under, firstOf}
 
 -- "Given: config bytes, attachment number, socket (family, 16 address bytes, port), packet, cookie k, current bytes, a table of cookie
 -- values, boot time."

@@ -11,15 +11,11 @@ use units::DurableFenceToken;
 use units::RootCgroupId;
 use units::SocketCookie;
 use verdict::FenceVerdict;
-ghost use Rattle.octets.specs.Words.{_+_, _≤_, _<_, _≡_, not, [], _∷_, length, eqb};
+ghost use Rattle.octets.specs.Words.{_≡_, not, [], _∷_, eqb};
 ghost use Rattle.packet.specs.Answers as reading;
 ghost use Rattle.records.specs.Entry.{closed};
-ghost use Rattle.gate.specs.Table.{admissible, isUnder, FirstUnder};
 ghost use Rattle.gate.specs.Gate.{given, sameAddress, matches, stale, expired, unread, viewOf, rules, firstRule, gateOf, answerOf};
-ghost use Rattle.gate.specs.Inner.Steps.{FirstFrom, sourceOf, soughtRecord, from, numbered, lookup, registration, Ruled};
-
-// The longest table: 4,096 cookie values.
-pub const MAX_TABLE_LEN: usize = 163_840;
+ghost use Rattle.gate.specs.Inner.Steps.{sourceOf, soughtRecord, from, numbered, lookup, registration, Ruled};
 
 // An address of either family, in network order.
 pub type SocketAddress = [u8; 16];
@@ -42,61 +38,6 @@ pub struct GateAnswer {
 struct Ruling {
     rule: u8,
     reading: PacketReading,
-}
-
-// ---- the search
-
-// Two cookie values side by side.
-const PAIR: usize = 2 * FenceCookieValue::LEN;
-
-// Whether a cookie value stands under a key: its cookie is at 8, its token at 16.
-fn is_under(bytes: &[u8], cookie: SocketCookie, token: DurableFenceToken) -> bool
-    ensures { λ r. ⌜ r ≡ isUnder (cookie .0) (token .0) (now (bytes .entry)) ⌝ }
-{
-    if octets::get_u64_le(bytes, 8) == cookie.0 {
-        return octets::get_u64_le(bytes, 16) == token.0;
-    }
-    false
-}
-
-// From a place after which there is no second whole record: the record there, where it stands under the key; else an empty part.
-fn find_last(table: &[u8], at: usize, cookie: SocketCookie, token: DurableFenceToken) -> &[u8]
-    requires { ⌜ (at ≤ length (now table)) × (length (now table) < at + 80) ⌝ }
-    ensures { λ r. ⌜ FirstFrom at (cookie .0) (token .0) (table .entry) r ⌝ }
-{
-    if table.len() - at < FenceCookieValue::LEN {
-        return &table[..0];
-    }
-    let one = &table[at..at + FenceCookieValue::LEN];
-    if is_under(one, cookie, token) {
-        return one;
-    }
-    &table[..0]
-}
-
-// The first whole record of the table with this cookie and token, as that part of the table; an empty part where there is none. The
-// records are passed two at a time.
-pub fn find_record(table: &[u8], cookie: SocketCookie, token: DurableFenceToken) -> &[u8]
-    ensures { λ r. ⌜ FirstUnder (cookie .0) (token .0) (table .entry) r ⌝ }
-{
-    if table.len() < PAIR {
-        return find_last(table, 0, cookie, token);
-    }
-    let last = table.len() - PAIR;
-    let mut at = 0;
-    while at <= last {
-        let middle = at + FenceCookieValue::LEN;
-        let first = &table[at..middle];
-        if is_under(first, cookie, token) {
-            return first;
-        }
-        let second = &table[middle..at + PAIR];
-        if is_under(second, cookie, token) {
-            return second;
-        }
-        at += PAIR;
-    }
-    find_last(table, at, cookie, token)
 }
 
 // ---- a function for each rule's test
@@ -162,16 +103,6 @@ fn read_source(socket: Socket, packet: &[u8], endpoint: ProtectedEndpoint) -> Pa
     packet::classify_l3_udp_source(packet, endpoint)
 }
 
-// Rule 7: whole records, and no more than 4,096.
-fn is_admissible(table: &[u8]) -> bool
-    ensures { λ r. ⌜ r ≡ admissible (now (table .entry)) ⌝ }
-{
-    if table.len() % FenceCookieValue::LEN != 0 {
-        return false;
-    }
-    table.len() <= MAX_TABLE_LEN
-}
-
 // Rule 8: token 0 seeks nothing.
 fn seek(table: &[u8], cookie: SocketCookie, token: DurableFenceToken) -> &[u8]
     ensures { λ r. ⌜ now r ≡ soughtRecord (cookie .0) (token .0) (now (table .entry)) ⌝ }
@@ -180,7 +111,7 @@ fn seek(table: &[u8], cookie: SocketCookie, token: DurableFenceToken) -> &[u8]
     if sought == 0 {
         return &table[..0];
     }
-    find_record(table, cookie, token)
+    table::find_record(table, cookie, token)
 }
 
 // Rule 10: no socket is registered, or another one.
@@ -251,7 +182,7 @@ fn authorize(cookie: SocketCookie, current: &[u8], table: &[u8], now_boot_ns: Bo
     if published.number != 0 {
         return 6;
     }
-    if !is_admissible(table) {
+    if !table::is_admissible(table) {
         return 7;
     }
     let authority = published.value;

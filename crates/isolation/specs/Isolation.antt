@@ -8,7 +8,7 @@ use Rattle.octets.specs.Lists.{bytesAt}
 use Rattle.endpoint.specs.declared.ProtectedEndpoint.{ProtectedEndpoint}
 use Rattle.packet.specs.Reading.{classifyOf}
 use Rattle.isolation.specs.Places.{places}
-use Rattle.gate.specs.Table.{admissible}
+use Rattle.table.specs.Table.{admissible}
 use Rattle.gate.specs.Gate.{Call, endpoint, sought, viewOf, answering, gateOf}
 
 -- ---- of the classifier

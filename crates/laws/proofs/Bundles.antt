@@ -10,7 +10,7 @@ use Rattle.records.specs.Entry.{stateListed, deadlineFits, epochFits}
 use Rattle.packet.specs.Reading.{sortOf, udpOf, passOf, countedOf, fragmentOf, stepOf as sorted, walkOf, ipv4Head, ipv6Head, known, classifyOf}
 use Rattle.packet.specs.Example.{A}
 use Rattle.text.specs.Text.{decimalIn}
-use Rattle.gate.specs.Table.{admissible, recordsIn, records, isUnder, under, firstOf}
+use Rattle.table.specs.Table.{admissible, recordsIn, records, isUnder, under, firstOf}
 use Rattle.gate.specs.Gate.{viewOf, rules, answering, sameAddress, matches, headersOf}
 use Rattle.bundle.specs.Feed.{onward, readIn, read}
 use Rattle.bundle.specs.Frames.{exactly, frameOf, frameAt, callOf, stepOf, feedAt, bundleOf}

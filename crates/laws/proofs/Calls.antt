@@ -12,7 +12,7 @@ use Rattle.packet.specs.Reading.{sortOf, udpOf, passOf, countedOf, fragmentOf, 
 use Rattle.packet.specs.Example.{endpoint4500, A}
 use Rattle.isolation.specs.Places.{udpPlaces, named}
 use Rattle.verdict.specs.declared.CounterSlot.the-variants.{Slot}
-use Rattle.gate.specs.Table.{admissible, recordsIn, records, isUnder, under, firstOf}
+use Rattle.table.specs.Table.{admissible, recordsIn, records, isUnder, under, firstOf}
 use Rattle.gate.specs.Gate.{viewOf, rules, answering, sameAddress, matches, headersOf, gateOf}
 use Rattle.laws.specs.Calls.{configured, open9, active9, unbound, witnesses, bound, loopback, configured6, B, later9, active8, edges, here, there, dropsAll, EveryRuleAnswers, EdgesHold, SomeAreAlike, DropsAllIsIsolated, DropsAllIsRefused}
 

@@ -19,11 +19,11 @@ use Rattle.verdict.specs.declared.FenceVerdict.the-variants.{DropStaleToken}
 use Rattle.verdict.specs.declared.FenceAuthoritySnapshot.{FenceAuthoritySnapshot}
 use Rattle.verdict.specs.declared.RegisteredEntry.{RegisteredEntry}
 use Rattle.verdict.specs.declared.RegisteredEntry.the-variants.{Absent, Present}
-use Rattle.gate.specs.Table.{isUnder, firstOf}
+use Rattle.table.specs.Table.{isUnder, firstOf}
 use Rattle.gate.specs.Gate.{Call, decodes, stale, expired, differs, reading, token, registered, unread, View, viewOf, value, Rule, rules, firstRule, answering, gateOf}
 use Rattle.gate.specs.Inner.Steps.{from, numbered}
 use Rattle.laws.specs.Decided.{undecoded, contextOf, entryIn, snapshotOf, Decided}
-use Rattle.gate.proofs.TableLaws.{First, none, first, first-found}
+use Rattle.table.proofs.TableLaws.{First, none, first, first-found}
 use Rattle.gate.proofs.RuleLaws.{over, here, consulted-read}
 
 -- the slot of a rule, and that it is none of those that answer for bytes

@@ -19,7 +19,8 @@
 //   and the sorting of the next-header value covers each of 256 values once (`sorted-once` in `Sorting.antt`).
 // - The gate. Stated in `gate/specs/Promises.antt`: the first rule that applies answers (`first-that-applies`, `some-rule-applies`,
 //   `rule-answers` in `gate/proofs/Rules.antt`), the rules bear 01's numbers in 01's order (`numbered-in-order`), and the header count is at
-//   most 4 (`count-at-most-4`). A record that is found has forty bytes and stands under the key (`first-found` in `TableLaws.antt`). Stated
+//   most 4 (`count-at-most-4`). A record that is found has forty bytes and stands under the key (`first-found` in
+//   `table/proofs/TableLaws.antt`). Stated
 //   in `laws/specs/Calls.antt`: each of the thirteen answers some call, and calls at the rules' edges (`every-rule-answers`, `edges-hold`
 //   in `laws/proofs/Calls.antt`). Wherever the bytes decode the gate is `decide_egress` (`is-decide-egress` in `DecidedLaw.antt`, stated in
 //   `laws/specs/Decided.antt`).

@@ -6,7 +6,7 @@ use denote.Ref.{now}
 use Rattle.records.specs.Current.{currentCodec}
 use Rattle.gate.specs.Gate.{Call, inForce, viewOf, rules}
 use Rattle.gate.specs.Inner.Steps.{lookup, soughtRecord}
-use Rattle.gate.proofs.TableLaws.{held}
+use Rattle.table.proofs.TableLaws.{held}
 use Rattle.gate.proofs.RuleLaws.{Past, over, told, decoded, undecoded, found-held, held-none, held-one, at-record}
 use Rattle.gate.proofs.authorize.Statement.{statement}
 use Rattle.gate.proofs.authorize.Tie as tie

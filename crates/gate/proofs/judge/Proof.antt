@@ -4,7 +4,7 @@ use Rattle.octets.proofs.Tools.{refl, sym, ap, _∙_, free}
 use denote.Ref.{now}
 use Rattle.records.specs.Entry.{closed}
 use Rattle.records.specs.CookieValue.{cookieValueCodec}
-use Rattle.gate.specs.Table.{firstOf}
+use Rattle.table.specs.Table.{firstOf}
 use Rattle.gate.specs.Gate.{expired, View, value, rules}
 use Rattle.gate.specs.Inner.Steps.{registration}
 use Rattle.gate.proofs.RuleLaws.{Past, over, told, decoded, undecoded}

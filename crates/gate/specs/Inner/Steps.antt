@@ -1,20 +1,14 @@
--- The parts of the gate that its inner functions are held to: the search from a place on, the packet's source, the record that is sought, a
+-- The parts of the gate that its inner functions are held to: the packet's source, the record that is sought, a
 -- rule by its number, and what the later rules look at. 01's rules are in `Gate` and do not rest on this. Assumes nothing.
-use Rattle.octets.specs.Words.{ℕ, _≡_, true, cond, List, [], _∷_, drop, eqb}
-use denote.Ref.{RefT, ptr, now}
+use Rattle.octets.specs.Words.{ℕ, _≡_, true, cond, List, [], _∷_, eqb}
 use Rattle.endpoint.specs.declared.ProtectedEndpoint.{ProtectedEndpoint}
 use Rattle.packet.specs.Reading.{Answer as Reading, classifyOf}
 use Rattle.packet.specs.Answers as packet
 use Rattle.verdict.specs.declared.FenceVerdict.the-variants.{DropMalformed}
 use Rattle.gate.specs.declared.Socket.{Socket}
 use Rattle.gate.specs.declared.Ruling.{Ruling}
-use Rattle.gate.specs.Table.{records, under, firstOf, placeFrom, after}
+use Rattle.table.specs.Table.{records, under, firstOf}
 use Rattle.gate.specs.Gate.{Call, given, matches, unread, View, viewOf, Rule, rule, answering}
-
--- a part has the bytes of the first record under a key from the place at on, and lies where that record does; from 0 on it is `FirstUnder`
-pub record FirstFrom (at k t : ℕ) (table part : RefT (List ℕ)) : Type 0 where
-  pub bytes : now part ≡ firstOf (under k t (records (drop at (now table))))
-  pub place : ptr part ≡ after table (placeFrom at k t (records (drop at (now table))))
 
 -- the packet counts as the endpoint's, unread, where the socket matches
 unfoldable pub sourceOf : Socket → List ℕ → ProtectedEndpoint → Reading

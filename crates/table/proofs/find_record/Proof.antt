@@ -2,10 +2,10 @@
 -- records; where less than two are left, `find_last` goes on. Assumes nothing.
 use Rattle.octets.specs.Words.{_+_, _-_, _≤_, _≡_, length, drop}
 use Rattle.octets.proofs.Tools.{refl, sym, _∙_, arith, needs, free}
-use Rattle.gate.specs.Table.{records}
-use Rattle.gate.proofs.TableLaws.{searched, found-here, found-on, found-is, found-first}
-use Rattle.gate.proofs.find_record.Statement.{statement}
-use Rattle.gate.proofs.find_record.Tie as tie
+use Rattle.table.specs.Table.{records}
+use Rattle.table.proofs.TableLaws.{searched, found-here, found-on, found-is, found-first}
+use Rattle.table.proofs.find_record.Statement.{statement}
+use Rattle.table.proofs.find_record.Tie as tie
 
 abbrev Inv-loop : tie.InvT-loop
 Inv-loop table cookie token last at₀ at =

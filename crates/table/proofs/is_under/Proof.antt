@@ -1,8 +1,8 @@
 -- `is_under`: the cookie first, then the token, as in the definition. Assumes nothing.
 use Rattle.octets.proofs.Tools.{free, eq-eqb, ne-eqb}
-use Rattle.gate.specs.Table.{isUnder}
-use Rattle.gate.proofs.is_under.Statement.{statement}
-use Rattle.gate.proofs.is_under.Tie as tie
+use Rattle.table.specs.Table.{isUnder}
+use Rattle.table.proofs.is_under.Statement.{statement}
+use Rattle.table.proofs.is_under.Tie as tie
 
 pub is-under-spec : {M : Type 1} → statement M
 unfolding isUnder

@@ -3,9 +3,9 @@
 use Rattle.octets.specs.Words.{_+_, _-_, _≡_}
 use Rattle.octets.proofs.Tools.{refl, sym, _∙_, arith, needs, free}
 use native.Mathlib.Nat.{zero-add}
-use Rattle.gate.proofs.TableLaws.{found-here, found-on, found-none, found-is}
-use Rattle.gate.proofs.find_last.Statement.{statement}
-use Rattle.gate.proofs.find_last.Tie as tie
+use Rattle.table.proofs.TableLaws.{found-here, found-on, found-none, found-is}
+use Rattle.table.proofs.find_last.Statement.{statement}
+use Rattle.table.proofs.find_last.Tie as tie
 
 returns : tie.Need-returns
 returns c = let a = c .before .before .before .args in found-is (found-none _ _ (a .table .now) (a .at) (search needs)) refl (rw zero-add)

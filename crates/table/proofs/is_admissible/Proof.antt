@@ -1,8 +1,8 @@
 -- `is_admissible`: the definition's two tests, in its order. Assumes nothing.
 use Rattle.octets.proofs.Tools.{eq-eqb, ne-eqb}
-use Rattle.gate.specs.Table.{admissible}
-use Rattle.gate.proofs.is_admissible.Statement.{statement}
-use Rattle.gate.proofs.is_admissible.Tie as tie
+use Rattle.table.specs.Table.{admissible}
+use Rattle.table.proofs.is_admissible.Statement.{statement}
+use Rattle.table.proofs.is_admissible.Tie as tie
 
 pub is-admissible-spec : {M : Type 1} → statement M
 unfolding admissible

@@ -6,8 +6,8 @@ use native.Mathlib.Nat.{add-comm}
 use lib.ListN.{length-take, length-drop}
 use lib.Seq.{drop-drop}
 use denote.Ref.{RefT, ptr, now}
-use Rattle.gate.specs.Table.{recordsIn, records, isUnder, under, firstOf, placeFrom, after, FirstUnder}
-use Rattle.gate.specs.Inner.Steps.{FirstFrom}
+use Rattle.table.specs.Table.{recordsIn, records, isUnder, under, firstOf, placeFrom, after, FirstUnder}
+use Rattle.table.specs.Inner.Search.{FirstFrom}
 
 records-none : (s : List ℕ) → length s < 40 → records s ≡ []
 unfolding records recordsIn

@@ -1,0 +1,3 @@
+-- The definitions that the contracts of `table` cite. Assumes nothing.
+pub mod Table
+pub mod Inner
