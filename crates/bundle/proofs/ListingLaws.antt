@@ -1,6 +1,6 @@
 -- A listing that is under way. Of the lines of a bundle, those of the feed at the cursor are owed: whoever writes them where the others end
 -- has written all. A packet's line pays one, and the last line the rest. Whatever a sheet prints of a call. Assumes nothing.
-use Rattle.octets.specs.Words.{ℕ, _+_, _-_, _<_, _≤_, _≡_, true, false, List, length, leb}
+use Rattle.octets.specs.Words.{ℕ, _+_, _-_, _<_, _≤_, _≡_, Bool, true, false, List, length, leb}
 use Rattle.octets.proofs.Tools.{refl, sym, ap, _∙_, arith, leb-true}
 use mathlib.Core.Path.{subst}
 use native.Mathlib.Nat.{zero-add}
@@ -14,7 +14,7 @@ use Rattle.gate.specs.Gate as gate
 use Rattle.gate.specs.declared.GateAnswer.{GateAnswer}
 use Rattle.bundle.specs.Feed.{Feed, beginning}
 use Rattle.bundle.specs.Frames.{State, callOf, bundleOf}
-use Rattle.bundle.specs.Listing.{Line, line, linesBy, sheet, verdictLine, listing, answerOf, outputOf, Lists}
+use Rattle.bundle.specs.Listing.{Line, line, linesBy, sheet, verdictLine, whole, listing, answerOf, outputOf, Lists}
 use Rattle.bundle.specs.Inner.Steps.{stateOf, readStep, deskLeft, nextAt, nextIs}
 use Rattle.bundle.specs.declared.frames.Cursor.{Cursor}
 use Rattle.bundle.specs.declared.frames.Next.{Next as Told}
@@ -35,6 +35,7 @@ pub record Going (g : Line) (s t₀ t d₀ d : List ℕ) (c : Cursor) (i w : ℕ
   pub same-out : length d ≡ length d₀
   pub fits : length d₀ ≤ lastPlace
   pub count : i + length (deskFeed s (desk c t) .calls) ≤ lastPlace
+  pub ending : deskFeed s (desk c t) .ending ≡ bundleOf s .ending
   pub owed : (d′ : List ℕ) (r : ℕ) → Wrote d w (linesOf g i (deskFeed s (desk c t))) d′ r → Wrote d₀ 0 (sheet g (bundleOf s)) d′ r
 
 pub go-start : (g : Line) (s t d : List ℕ) → length s ≤ length t → length t ≤ lastPlace → length d ≤ lastPlace → Going g s t t d d (before-all (length s)) 0 0
@@ -45,6 +46,7 @@ go-start g s t d h l m =
       same-out = refl;
       fits = m;
       count = omega (arith, few-calls s, ap (λ f. length (f .calls)) same);
+      ending = ap (λ f. f .ending) same;
       owed = λ d′ r w. rw (ap (linesOf g 0) same) at w;
     }
 
@@ -79,12 +81,16 @@ module _ {s : List ℕ} {c : Cursor} {t t′ : List ℕ} {x : Told} (e : Comes s
           same-out = same-length p ∙ k .same-out;
           fits = k .fits;
           count = omega (arith, k .count, told-fewer h);
+          ending = sym (ap (λ f. f .ending) (told-feed h)) ∙ k .ending;
           owed = λ d″ q v. rw (told-feed h) at (k .owed) d″ q (then (omega (arith, k .same-out, k .fits)) p v);
         }
 
     -- the last line
     pub go-last : {y : Told} {d′ : List ℕ} {r : ℕ} → x ≡ y → Wrote d w (linesOf g i (beginning (deskFeed s) (nextIs s t′ y))) d′ r → Wrote d₀ 0 (sheet g (bundleOf s)) d′ r
     go-last {y} {d′} {r} h p = k .owed d′ r (rw (told-feed h) p)
+
+    pub last-ending : {y : Told} → x ≡ y → beginning (deskFeed s) (nextIs s t′ y) .ending ≡ bundleOf s .ending
+    last-ending h = sym (ap (λ f. f .ending) (told-feed h)) ∙ k .ending
 
 -- ---- the line of an answer
 
@@ -102,17 +108,18 @@ judged i a st part packet e f p = rw (line-is i a (callOf st packet) (e ∙ ap (
 
 -- ---- the whole listing, or none of it
 
-pub refused : {s d : List ℕ} → leb (length (listing s)) (length d) ≡ false → Lists s d (record { number = 4; length = 0 }) d
+pub refused : {s d : List ℕ} → leb (length (listing s)) (length d) ≡ false → Lists s d (record { number = 4; length = 0; whole = false }) d
 unfolding answerOf outputOf
 refused e = record { answer = rw e; output = rw e; inside = omega arith }
 
-pub done : {s d d′ : List ℕ} {r : ℕ} → length d ≤ lastPlace → leb (length (listing s)) (length d) ≡ true → Wrote d 0 (listing s) d′ r → Lists s d (record { number = 0; length = r }) d′
+pub done : {s d d′ : List ℕ} {r : ℕ} {b : Bool} → length d ≤ lastPlace → leb (length (listing s)) (length d) ≡ true → Wrote d 0 (listing s) d′ r → b ≡ whole s →
+    Lists s d (record { number = 0; length = r; whole = b }) d′
 unfolding answerOf outputOf
-done {s} {d} {d′} {r} l e w =
+done {s} {d} {d′} {r} l e w v =
     let room : length (listing s) ≤ length d = leb-true (length (listing s)) (length d) e in
     let long : r ≡ length (listing s) = w .past ∙ measures (length (listing s)) (omega arith) in
     record {
-      answer = rw (e, long);
+      answer = rw (e, long, v);
       output = rw e (w .bytes ∙ put-in d 0 (listing s) (omega arith) ∙ rw zero-add);
       inside = omega (arith, same-length w);
     }

@@ -1,5 +1,5 @@
 -- Document 01, 'The bundle and its listing': the listing of a bundle. Assumes nothing.
-use Rattle.octets.specs.Words.{ℕ, _+_, _≤_, _≡_, cond, List, [], _∷_, _++_, length, drop, ltb, leb}
+use Rattle.octets.specs.Words.{ℕ, _+_, _≤_, _≡_, Bool, true, false, cond, List, [], _∷_, _++_, length, drop, ltb, leb}
 use Rattle.text.specs.Text.{ascii, decimal, numbered}
 use Rattle.verdict.specs.Verdict.{slotOf}
 use Rattle.verdict.specs.declared.FenceVerdict.{FenceVerdict}
@@ -59,9 +59,19 @@ longest = 65_536
 unfoldable pub listing : List ℕ → List ℕ
 listing s = cond (ltb longest (length s)) (ascii "long\n") (sheet verdictLine (bundleOf s))
 
--- a text for an output with so much room: 0 and its length, or 4 where the output is shorter ('Numbers given back')
-unfoldable pub answerOf : List ℕ → ℕ → Listed
-answerOf text room = cond (leb (length text) room) (record { number = 0; length = length text }) (record { number = 4; length = 0 })
+-- whether the calls came to their end, and not to a fault; and of a bundle, which may be too long besides
+unfoldable pub endsWell : Ending → Bool
+endsWell ended = true
+endsWell (bad at) = false
+
+unfoldable pub whole : List ℕ → Bool
+whole s = cond (ltb longest (length s)) false (endsWell (bundleOf s .ending))
+
+-- a text for an output with so much room, of something whole or not: 0, its length and that, or 4 where the output is shorter ('Numbers
+-- given back')
+unfoldable pub answerOf : List ℕ → Bool → ℕ → Listed
+answerOf text whole room =
+    cond (leb (length text) room) (record { number = 0; length = length text; whole = whole }) (record { number = 4; length = 0; whole = false })
 
 -- what the output holds then: the text at the start and the rest as it was; untouched on a refusal
 unfoldable pub outputOf : List ℕ → List ℕ → List ℕ
@@ -69,7 +79,7 @@ outputOf text out = cond (leb (length text) (length out)) (text ++ drop (length 
 
 -- what is answered for the bytes s, with an output that held out and holds out′ then
 pub record Lists (s out : List ℕ) (r : Listed) (out′ : List ℕ) : Type 0 where
-  pub answer : r ≡ answerOf (listing s) (length out)
+  pub answer : r ≡ answerOf (listing s) (whole s) (length out)
   pub output : out′ ≡ outputOf (listing s) out
   -- the listing lies inside the output; it follows from the two above, and is stated for a caller that takes that part
   pub inside : r .length ≤ length out′

@@ -1,7 +1,7 @@
 -- How long a listing is, and so what room suffices for one. The other laws of listings are stated in `laws`. Assumes nothing.
 use Rattle.octets.specs.Words.{ℕ, _*_, _≤_, _≡_, List, length}
 use Rattle.bundle.specs.Frames.{bundleOf}
-use Rattle.bundle.specs.Listing.{listing, answerOf}
+use Rattle.bundle.specs.Listing.{listing, whole, answerOf}
 
 -- a packet's frame takes six bytes or more
 abbrev pub FewCalls : Type 0
@@ -16,4 +16,4 @@ Bounded = (s : List ℕ) → length (listing s) ≤ longestListing
 
 -- so an output with this room always suffices: whoever lends it never sees number 4
 abbrev pub RoomSuffices : Type 0
-RoomSuffices = (s : List ℕ) (room : ℕ) → longestListing ≤ room → answerOf (listing s) room .number ≡ 0
+RoomSuffices = (s : List ℕ) (room : ℕ) → longestListing ≤ room → answerOf (listing s) (whole s) room .number ≡ 0

@@ -7,7 +7,7 @@ use frames::Next;
 ghost use Rattle.octets.specs.Words.{_≤_, _≡_, length, leb};
 ghost use Rattle.text.specs.Text.{Wrote};
 ghost use Rattle.bundle.specs.Frames.{bundleOf};
-ghost use Rattle.bundle.specs.Listing.{sheet, verdictLine, listing, Lists};
+ghost use Rattle.bundle.specs.Listing.{endsWell, sheet, verdictLine, whole, listing, Lists};
 
 // The longest bundle.
 pub const MAX_BUNDLE: usize = 65_536;
@@ -19,12 +19,21 @@ pub const MAX_LISTING: usize = 273_060;
 pub struct Listed {
     pub number: u32,
     pub length: usize,
+    // Whether the listing is of a whole bundle: one that is not too long, and whose every frame could be read.
+    pub whole: bool,
+}
+
+// Lines that were written: the place after them, and whether they are of a whole bundle.
+struct Sheet {
+    to: usize,
+    whole: bool,
 }
 
 // Writes a line for each packet and the last line. The table is gathered in `table`.
-fn put_lines(out: &mut [u8], input: &[u8], table: &mut [u8]) -> usize
+fn put_lines(out: &mut [u8], input: &[u8], table: &mut [u8]) -> Sheet
     requires { ⌜ length (now input) ≤ length (now table) ⌝ }
-    ensures { λ r. ⌜ Wrote (now (out .entry)) 0 (sheet verdictLine (bundleOf (now (input .entry)))) (now (out .exit)) r ⌝ }
+    ensures { λ r. ⌜ Wrote (now (out .entry)) 0 (sheet verdictLine (bundleOf (now (input .entry)))) (now (out .exit)) (r .to) ⌝ }
+    ensures { λ r. ⌜ r .whole ≡ endsWell (bundleOf (now (input .entry)) .ending) ⌝ }
 {
     let mut cursor = frames::start(input.len());
     let mut ordinal: u64 = 0;
@@ -39,19 +48,27 @@ fn put_lines(out: &mut [u8], input: &[u8], table: &mut [u8]) -> usize
                 ordinal += 1;
                 cursor = after;
             }
-            Next::Ended(last) => return text::put_numbered(out, to, b"end ", ordinal),
-            Next::Bad(last) => return text::put_numbered(out, to, b"bad ", last.at as u64),
+            Next::Ended(last) => {
+                let to = text::put_numbered(out, to, b"end ", ordinal);
+                return Sheet { to, whole: true };
+            }
+            Next::Bad(last) => {
+                let to = text::put_numbered(out, to, b"bad ", last.at as u64);
+                return Sheet { to, whole: false };
+            }
         }
     }
 }
 
-// Writes the listing so far as `out` reaches, and answers how long the whole is.
-fn put_listing(out: &mut [u8], input: &[u8], table: &mut [u8]) -> usize
+// Writes the listing so far as `out` reaches, and answers how long all of it is.
+fn put_listing(out: &mut [u8], input: &[u8], table: &mut [u8]) -> Sheet
     requires { ⌜ 65536 ≤ length (now table) ⌝ }
-    ensures { λ r. ⌜ Wrote (now (out .entry)) 0 (listing (now (input .entry))) (now (out .exit)) r ⌝ }
+    ensures { λ r. ⌜ Wrote (now (out .entry)) 0 (listing (now (input .entry))) (now (out .exit)) (r .to) ⌝ }
+    ensures { λ r. ⌜ r .whole ≡ whole (now (input .entry)) ⌝ }
 {
     if MAX_BUNDLE < input.len() {
-        return text::put_text(out, 0, b"long\n");
+        let to = text::put_text(out, 0, b"long\n");
+        return Sheet { to, whole: false };
     }
     put_lines(out, input, table)
 }
@@ -65,7 +82,8 @@ fn has_room(input: &[u8], table: &mut [u8], room: usize) -> bool
         return true;
     }
     let mut nothing = [0u8; 1];
-    put_listing(&mut nothing, input, table) <= room
+    let sheet = put_listing(&mut nothing, input, table);
+    sheet.to <= room
 }
 
 // Writes the listing of a bundle at the start of `out`. Where `out` is shorter it stays as it was.
@@ -77,8 +95,13 @@ pub fn list(input: &[u8], out: &mut [u8]) -> Listed
         return Listed {
             number: 4,
             length: 0,
+            whole: false,
         };
     }
-    let length = put_listing(out, input, &mut table);
-    Listed { number: 0, length }
+    let sheet = put_listing(out, input, &mut table);
+    Listed {
+        number: 0,
+        length: sheet.to,
+        whole: sheet.whole,
+    }
 }

@@ -1,57 +1,68 @@
 // Prints the listing of the bundle on standard input: a line for each packet, and a last line. Of input over 65,536 bytes it prints
 // `long` alone. Input that cannot be read, and a listing that cannot be written, get one line on descriptor 2.
-use libc::STDERR_FILENO;
 use libc::STDIN_FILENO;
-use libc::STDOUT_FILENO;
-ghost use Prim.Native.Nat.{_≤_};
-ghost use lib.ListN.{length};
+use program::Outcome;
+use program::Reading;
+use program::Request;
+use program::Written;
 
 // One byte more than the longest bundle shows that there is more.
 const ENOUGH: usize = bundle::MAX_BUNDLE + 1;
 
-// What reading gave: how many bytes stand at the start of the space, and whether a read failed.
-struct Input {
-    length: usize,
-    failed: bool,
-}
-
-// Reads standard input to the start of `space`, until the space is full, the input ends or a read fails.
-fn read_input(space: &mut [u8]) -> Input
-    ensures { λ r. ⌜ r .length ≤ length (now (space .exit)) ⌝ }
-{
-    let mut at = 0;
-    while at < space.len() {
-        let got = libc::read(STDIN_FILENO, &mut space[at..]);
-        if got < 0 {
-            return Input {
-                length: at,
-                failed: true,
-            };
-        }
-        let more = io::count(got, &space[at..]);
-        if more == 0 {
-            break;
-        }
-        at += more;
-    }
-    Input {
-        length: at,
-        failed: false,
-    }
-}
-
 fn main() {
+    let request = program::asked();
+    let outcome = match request {
+        Request::Work => judge(),
+        Request::Help => help(),
+        Request::Version => program::show(b"judge (threadwicket) 1.0\n"),
+        Request::Other => program::complain(
+            b"judge: it takes no file's name and no other argument: a bundle comes on standard input (judge --help says more)\n",
+        ),
+    };
+    program::end(outcome);
+}
+
+fn help() -> Outcome {
+    program::show(
+        b"usage: judge < BUNDLE\n\nPrints a line for each packet of the bundle on standard input: its ordinal, the verdict, the number of IPv6 extension\nheaders passed, and the verdict's counter slot or `-`. The last line is `end` and the number of packets; `bad` and the offset\nof a frame that cannot be read, after the packets before it; or `long` alone, for more than 65,536 bytes.\n\nStatus, as the script threadwicket gives it: 0 for a listing that ends in `end`; 1 for `bad` and `long`; 2 where the input\ncould not be read or the listing not be written, which a line on descriptor 2 says. The program by itself has no status.\n",
+    )
+}
+
+// Reads the bundle and lists it.
+fn judge() -> Outcome {
     let mut space = [0u8; ENOUGH];
-    let input = read_input(&mut space);
-    if input.failed {
-        io::write_all(STDERR_FILENO, b"judge: the input could not be read\n");
-        return;
-    }
+    let input = program::read_input(STDIN_FILENO, bundle::MAX_BUNDLE, &mut space);
     let n = input.length;
+    let reading = input.reading;
+    match reading {
+        Reading::Whole => list(&space[0..n]),
+        Reading::Longer => list(&space[0..n]),
+        Reading::Failed => program::complain(b"judge: the input could not be read\n"),
+        Reading::Small => program::complain(b"judge: there is no room for a longest bundle\n"),
+    }
+}
+
+// Writes the listing of a bundle.
+fn list(input: &[u8]) -> Outcome {
     let mut out = [0u8; bundle::MAX_LISTING];
-    let listed = bundle::list(&space[0..n], &mut out);
+    let listed = bundle::list(input, &mut out);
     let length = listed.length;
-    if !io::write_all(STDOUT_FILENO, &out[0..length]) {
-        io::write_all(STDERR_FILENO, b"judge: the listing could not be written\n");
+    let written = program::answer(
+        &out[0..length],
+        b"judge: the listing could not be written\n",
+    );
+    match written {
+        Written::Failed => Outcome::Failed,
+        Written::All => ending(listed.whole),
+        Written::Gone => ending(listed.whole),
+    }
+}
+
+// A bundle that was not read to its end was turned down.
+fn ending(whole: bool) -> Outcome {
+    if whole {
+        Outcome::Answered
+    } else {
+        Outcome::TurnedDown
     }
 }

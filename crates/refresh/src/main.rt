@@ -1,198 +1,263 @@
-// Says of each line `OBSERVED PRIOR REQUESTED` whether a refresh to the requested deadline is applied. Times are nanoseconds of the
-// boot clock, in decimal. A line that is not three numbers below 2^64 gets one line on descriptor 2, after the answers to the lines
-// before it, and an end. An answer that cannot be written gets one line on descriptor 2 and an end; input that cannot be read, or is
-// longer than 65,536 bytes, gets one line there and no answer.
+// Says of each line `OBSERVED PRIOR REQUESTED` on standard input whether a refresh to the requested deadline is applied. Times are
+// nanoseconds of the boot clock, in decimal, with blanks between them. A line is answered when it has come. A line that is not three numbers
+// below 2^64 gets one line on descriptor 2, after the answers to the lines before it, and an end; so do input that cannot be read and an
+// answer that cannot be written.
 use deadline::RefreshDeadlineDecision;
-use libc::STDERR_FILENO;
 use libc::STDIN_FILENO;
-use libc::STDOUT_FILENO;
+use program::Outcome;
+use program::Request;
+use program::Written;
 use units::BootNs;
-ghost use Prim.Native.Nat.{_≤_};
-ghost use lib.ListN.{length};
 
-const LONGEST: usize = 65536;
+// More reads than any input takes: so the loop over them is seen to end.
+const READS: u64 = 1_000_000_000_000_000_000;
 
-// A number in decimal and the place after it. `ok` is false where no digit stands, or the number is not below 2^64.
-struct Number {
-    ok: bool,
+// As much of a line as has come.
+struct Line {
+    // How many numbers are complete; 4 where there is something that does not belong to three numbers.
+    numbers: u8,
+    observed: u64,
+    prior: u64,
+    requested: u64,
+    // The number that is being read, if a digit of it has come.
     value: u64,
-    next: usize,
+    digits: bool,
+    // Whether any byte has come, and whether a carriage return has, after which the line ends.
+    begun: bool,
+    returned: bool,
 }
 
-// After a line: the place of the next one, which is no further on where the line is malformed; and whether the answer was written.
-struct Step {
-    next: usize,
-    written: bool,
-}
-
-const MALFORMED: Step = Step {
-    next: 0,
-    written: true,
+const EMPTY: Line = Line {
+    numbers: 0,
+    observed: 0,
+    prior: 0,
+    requested: 0,
+    value: 0,
+    digits: false,
+    begun: false,
+    returned: false,
 };
 
-// What reading gave: how many bytes stand at the start of the space, and whether a read failed.
-struct Input {
-    length: usize,
+// The lines so far: the one that is being read, its number, and whether there is nothing more to do, and then how it ended.
+struct Lines {
+    line: Line,
+    number: u64,
+    over: bool,
     failed: bool,
 }
 
-// Reads standard input to the start of `space`, until the space is full, the input ends or a read fails.
-fn read_input(space: &mut [u8]) -> Input
-    ensures { λ r. ⌜ r .length ≤ length (now (space .exit)) ⌝ }
-{
-    let mut at = 0;
-    while at < space.len() {
-        let got = libc::read(STDIN_FILENO, &mut space[at..]);
-        if got < 0 {
-            return Input {
-                length: at,
-                failed: true,
-            };
+fn main() {
+    let request = program::asked();
+    let outcome = match request {
+        Request::Work => answer_input(),
+        Request::Help => help(),
+        Request::Version => program::show(b"refresh (threadwicket) 1.0\n"),
+        Request::Other => program::complain(
+            b"refresh: it takes no argument: lines of three times come on standard input (refresh --help says more)\n",
+        ),
+    };
+    program::end(outcome);
+}
+
+fn help() -> Outcome {
+    program::show(
+        b"usage: refresh < LINES\n\nSays of each line OBSERVED PRIOR REQUESTED, three times of the boot clock in nanoseconds with blanks between them, whether a\nrefresh of the prior deadline to the requested one is applied: Apply, PriorExpired, RequestedDeadlineInvalid or\nDeadlineRegressed. It answers line by line.\n\nStatus, as the script threadwicket gives it: 0 where every line was answered; 2 where a line is not three numbers below 2^64,\nor the input could not be read or an answer not be written, which a line on descriptor 2 says. The program by itself has no\nstatus.\n",
+    )
+}
+
+// Reads what has come and answers its lines, until the input ends.
+fn answer_input() -> Outcome {
+    let mut space = [0u8; 4096];
+    let mut lines = Lines {
+        line: EMPTY,
+        number: 1,
+        over: false,
+        failed: false,
+    };
+    let mut reads: u64 = 0;
+    while reads < READS {
+        let some = program::read_some(STDIN_FILENO, &mut space);
+        if some.failed {
+            return program::complain(b"refresh: the input could not be read\n");
         }
-        let more = io::count(got, &space[at..]);
-        if more == 0 {
-            break;
+        let n = some.length;
+        if n == 0 {
+            return last_line(lines);
         }
-        at += more;
+        lines = take(lines, &space[0..n]);
+        if lines.over {
+            return ending(lines.failed);
+        }
+        reads += 1;
     }
-    Input {
-        length: at,
+    Outcome::Failed
+}
+
+fn ending(failed: bool) -> Outcome {
+    if failed {
+        Outcome::Failed
+    } else {
+        Outcome::Answered
+    }
+}
+
+// The last line may lack its newline.
+fn last_line(lines: Lines) -> Outcome {
+    let line = lines.line;
+    if !line.begun {
+        return Outcome::Answered;
+    }
+    let last = end_line(lines);
+    ending(last.failed)
+}
+
+// Takes the bytes that have come.
+fn take(lines: Lines, bytes: &[u8]) -> Lines {
+    let mut now = lines;
+    let mut at = 0;
+    while at < bytes.len() {
+        now = take_byte(now, bytes[at]);
+        if now.over {
+            return now;
+        }
+        at += 1;
+    }
+    now
+}
+
+fn take_byte(lines: Lines, byte: u8) -> Lines {
+    if byte == b'\n' {
+        return end_line(lines);
+    }
+    let line = put(lines.line, byte);
+    Lines {
+        line,
+        number: lines.number,
+        over: false,
         failed: false,
     }
 }
 
-fn complain(line: &[u8]) {
-    io::write_all(STDERR_FILENO, line);
+// A line with one byte more.
+fn put(line: Line, byte: u8) -> Line {
+    let mut next = line;
+    next.begun = true;
+    if line.returned {
+        next.numbers = 4;
+        return next;
+    }
+    if byte == b'\r' {
+        next.returned = true;
+        return next;
+    }
+    if byte == b' ' || byte == b'\t' {
+        return end_number(next);
+    }
+    put_digit(next, byte)
 }
 
-fn main() {
-    let mut space = [0u8; 65537];
-    let input = read_input(&mut space);
-    if input.failed {
-        complain(b"refresh: the input could not be read\n");
-        return;
+// A line with one byte more, which should be a digit, of a number below 2^64.
+fn put_digit(line: Line, byte: u8) -> Line {
+    let mut next = line;
+    next.digits = true;
+    if byte < b'0' || b'9' < byte || line.numbers >= 3 {
+        next.numbers = 4;
+        return next;
     }
-    let n = input.length;
-    if LONGEST < n {
-        complain(b"refresh: the input is longer than 65536 bytes\n");
-        return;
+    let digit = (byte - b'0') as u64;
+    if (18446744073709551615 - digit) / 10 < line.value {
+        next.numbers = 4;
+        return next;
     }
-    answer_lines(&space[0..n]);
+    next.value = line.value * 10 + digit;
+    next
 }
 
-// Answers the lines of the input.
-fn answer_lines(input: &[u8]) {
-    let mut line: u64 = 1;
-    let mut at = 0;
-    while at < input.len() {
-        let step = answer_line(input, at);
-        if !step.written {
-            complain(b"refresh: the answer could not be written\n");
-            return;
+// A number ends where a blank or the line's end comes after its digits.
+fn end_number(line: Line) -> Line {
+    let mut next = line;
+    if !line.digits {
+        return next;
+    }
+    next.digits = false;
+    next.value = 0;
+    let numbers = line.numbers;
+    match numbers {
+        0 => {
+            next.observed = line.value;
+            next.numbers = 1;
         }
-        let next = step.next;
-        if next <= at {
-            refuse_line(line);
-            return;
+        1 => {
+            next.prior = line.value;
+            next.numbers = 2;
         }
-        at = next;
-        line += 1;
+        2 => {
+            next.requested = line.value;
+            next.numbers = 3;
+        }
+        _ => {
+            next.numbers = 4;
+        }
+    }
+    next
+}
+
+// Answers a line that has come, and begins the next one.
+fn end_line(lines: Lines) -> Lines {
+    let line = end_number(lines.line);
+    let number = lines.number;
+    if line.numbers != 3 {
+        refuse_line(number);
+        return Lines {
+            line,
+            number,
+            over: true,
+            failed: true,
+        };
+    }
+    let decision = deadline::evaluate_refresh_deadlines(
+        BootNs(line.observed),
+        BootNs(line.prior),
+        BootNs(line.requested),
+    );
+    let written = print_decision(decision);
+    match written {
+        Written::All => Lines {
+            line: EMPTY,
+            number: std::num::wrapping_add_u64(number, 1),
+            over: false,
+            failed: false,
+        },
+        Written::Gone => Lines {
+            line,
+            number,
+            over: true,
+            failed: false,
+        },
+        Written::Failed => Lines {
+            line,
+            number,
+            over: true,
+            failed: true,
+        },
     }
 }
 
 fn refuse_line(line: u64) {
-    io::write_all(STDERR_FILENO, b"refresh: line ");
-    io::print_decimal(STDERR_FILENO, line);
-    io::write_all(
-        STDERR_FILENO,
-        b" is not three numbers below 2^64: OBSERVED PRIOR REQUESTED\n",
-    );
+    program::complain(b"refresh: line ");
+    io::print_decimal(libc::STDERR_FILENO, line);
+    program::complain(b" is not three numbers below 2^64: OBSERVED PRIOR REQUESTED\n");
 }
 
-// Answers the line that begins at `at`.
-fn answer_line(s: &[u8], at: usize) -> Step {
-    let observed = number_at(s, at);
-    if !followed_by(s, observed, b' ') {
-        return MALFORMED;
-    }
-    let prior = number_at(s, after(observed));
-    if !followed_by(s, prior, b' ') {
-        return MALFORMED;
-    }
-    let requested = number_at(s, after(prior));
-    if !followed_by(s, requested, b'\n') {
-        return MALFORMED;
-    }
-    let decision = deadline::evaluate_refresh_deadlines(
-        BootNs(observed.value),
-        BootNs(prior.value),
-        BootNs(requested.value),
-    );
-    Step {
-        next: after(requested),
-        written: print_decision(decision),
-    }
-}
-
-// False where the answer could not be written.
-fn print_decision(decision: RefreshDeadlineDecision) -> bool {
+fn print_decision(decision: RefreshDeadlineDecision) -> Written {
     match decision {
-        RefreshDeadlineDecision::PriorExpired => io::write_all(STDOUT_FILENO, b"PriorExpired\n"),
-        RefreshDeadlineDecision::RequestedDeadlineInvalid => {
-            io::write_all(STDOUT_FILENO, b"RequestedDeadlineInvalid\n")
-        }
-        RefreshDeadlineDecision::DeadlineRegressed => {
-            io::write_all(STDOUT_FILENO, b"DeadlineRegressed\n")
-        }
-        RefreshDeadlineDecision::Apply => io::write_all(STDOUT_FILENO, b"Apply\n"),
+        RefreshDeadlineDecision::PriorExpired => answer(b"PriorExpired\n"),
+        RefreshDeadlineDecision::RequestedDeadlineInvalid => answer(b"RequestedDeadlineInvalid\n"),
+        RefreshDeadlineDecision::DeadlineRegressed => answer(b"DeadlineRegressed\n"),
+        RefreshDeadlineDecision::Apply => answer(b"Apply\n"),
     }
 }
 
-// The place after the byte that follows a number.
-fn after(number: Number) -> usize {
-    let next = number.next;
-    if next < LONGEST { next + 1 } else { next }
-}
-
-// Whether there is a number, and the byte after it is the one given. A last line may lack its newline.
-fn followed_by(s: &[u8], number: Number, byte: u8) -> bool {
-    if !number.ok {
-        return false;
-    }
-    let next = number.next;
-    if s.len() <= next {
-        return byte == b'\n';
-    }
-    s[next] == byte
-}
-
-fn number_at(s: &[u8], from: usize) -> Number {
-    let mut at = from;
-    let mut value: u64 = 0;
-    let mut ok = false;
-    while at < s.len() {
-        let byte = s[at];
-        if byte < b'0' {
-            break;
-        }
-        if b'9' < byte {
-            break;
-        }
-        let digit = (byte - b'0') as u64;
-        if (18446744073709551615 - digit) / 10 < value {
-            return Number {
-                ok: false,
-                value: 0,
-                next: at,
-            };
-        }
-        value = value * 10 + digit;
-        ok = true;
-        at += 1;
-    }
-    Number {
-        ok,
-        value,
-        next: at,
-    }
+fn answer(text: &[u8]) -> Written {
+    program::answer(text, b"refresh: the answer could not be written\n")
 }

@@ -16,10 +16,10 @@ returns c =
 
 returns-2 : tie.Need-returns-2
 returns-2 c =
-    let put = c .before .before .before in
+    let put = c .before .before .before .before in
     let a = put .before .before .before .before .before .before .args in
     let fits : length (listing (a .input .now)) ≤ lastPlace = omega (arith, no-longer (a .input .now)) in
-    ap (λ n. leb n (a .room)) (put .put-listing .ensures .past ∙ measures (length (listing (a .input .now))) fits)
+    ap (λ n. leb n (a .room)) (put .put-listing .ensures .0 .past ∙ measures (length (listing (a .input .now))) fits)
 
 pub has-room-spec : {M : Type 1} → statement M
 has-room-spec = tie.close (tie.spec returns (λ c. search needs) (λ c κs. search needs) (λ c. search needs) returns-2)

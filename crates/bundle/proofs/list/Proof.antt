@@ -14,7 +14,7 @@ returns-2 c =
     let put = c .before .before .before in
     let room = put .before .before .before in
     let fits : length (room .before .before .before .before .before .before .args .out .now) ≤ lastPlace = omega arith in
-    done fits (sym (room .before .before .has-room .ensures) ∙ not-false _ (room .if1 .left)) (put .put-listing .ensures)
+    done fits (sym (room .before .before .has-room .ensures) ∙ not-false _ (room .if1 .left)) (put .put-listing .ensures .0) (put .put-listing .ensures .1)
 
 pub list-spec : {M : Type 1} → statement M
 list-spec =

@@ -1,13 +1,13 @@
 -- `put_lines`: the lines of the feed at the cursor are owed, and each packet leaves fewer. Assumes nothing.
 use Rattle.octets.specs.Words.{_-_, _≤_, length}
-use Rattle.octets.proofs.Tools.{_∙_, arith, needs, free}
+use Rattle.octets.proofs.Tools.{ap, _∙_, arith, needs, free}
 use Rattle.text.specs.Text.{lastPlace}
 use Rattle.text.proofs.TextLaws.{same-length}
 use Rattle.bundle.specs.Feed.{beginning}
-use Rattle.bundle.specs.Listing.{lastLine, linesBy, verdictLine}
+use Rattle.bundle.specs.Listing.{endsWell, lastLine, linesBy, verdictLine}
 use Rattle.bundle.proofs.FrameLaws.{octets-part}
 use Rattle.bundle.proofs.DeskLaws.{desk, deskFeed}
-use Rattle.bundle.proofs.ListingLaws.{Going, Comes, go-start, told-inside, told-fewer, go-line, go-last, judged}
+use Rattle.bundle.proofs.ListingLaws.{Going, Comes, go-start, told-inside, told-fewer, go-line, go-last, last-ending, judged}
 use Rattle.bundle.proofs.put_lines.Statement.{statement}
 use Rattle.bundle.proofs.put_lines.Tie as tie
 
@@ -51,16 +51,20 @@ loop-again c =
     (judged _ (judge .judge .result) _ _ _ (judge .judge .ensures) part (put .put-line .ensures))
 
 returns : tie.Need-returns Inv-loop μ-loop
-unfolding lastLine linesBy beginning
+unfolding lastLine linesBy beginning endsWell
 returns c =
-    let put = c .before .before in let told = put .before .before .before in let n = told .before .before .before .before .before in
-    go-last (comes n) (n .before .before .loop .inv) (told .before .last .given .1) (put .put-numbered .ensures)
+    let put = c .before .before in let told = put .before .before .before in let n = told .before .before .before .before .before in (
+      go-last (comes n) (n .before .before .loop .inv) (told .before .last .given .1) (put .put-numbered .ensures),
+      ap endsWell (last-ending (comes n) (n .before .before .loop .inv) (told .before .last .given .1)),
+    )
 
 returns-2 : tie.Need-returns-2 Inv-loop μ-loop
-unfolding lastLine linesBy beginning
+unfolding lastLine linesBy beginning endsWell
 returns-2 c =
-    let put = c .before .before in let told = put .before .before .before in let n = told .before .before .before .before .before in
-    go-last (comes n) (n .before .before .loop .inv) (told .before .last2 .given .1) (put .put-numbered2 .ensures)
+    let put = c .before .before in let told = put .before .before .before in let n = told .before .before .before .before .before in (
+      go-last (comes n) (n .before .before .loop .inv) (told .before .last2 .given .1) (put .put-numbered2 .ensures),
+      ap endsWell (last-ending (comes n) (n .before .before .loop .inv) (told .before .last2 .given .1)),
+    )
 
 pub put-lines-spec : {M : Type 1} → statement M
 put-lines-spec =
