@@ -35,10 +35,9 @@ fn judge() -> Outcome {
     let n = input.length;
     let reading = input.reading;
     match reading {
-        Reading::Whole => list(&space[0..n]),
-        Reading::Longer => list(&space[0..n]),
         Reading::Failed => program::complain(b"judge: the input could not be read\n"),
         Reading::Small => program::complain(b"judge: there is no room for a longest bundle\n"),
+        Reading::Whole | Reading::Longer => list(&space[0..n]),
     }
 }
 

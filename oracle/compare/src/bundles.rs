@@ -1,5 +1,5 @@
 //! The judging program against the listing of `oracle/plain`: makes bundles, has the program list each as a process of its own, and
-//! compares what it writes with the plain listing, byte for byte. Every verdict, every header count and every fault must occur.
+//! compares what it writes with the plain listing, byte for byte, and its status with the listing's ending. Every verdict, every header count and every fault must occur.
 
 use crate::rng::Rng;
 use crate::stream::start;
@@ -189,8 +189,14 @@ fn first_difference(expected: &[u8], got: &[u8]) -> (String, String) {
     (line(&expected), line(&got))
 }
 
-/// What the program writes, and whether it ended well.
-fn listed(bundle: &Bundle, command: &[&str]) -> Result<Vec<u8>, String> {
+/// The status that a listing asks for: 0 where the bundle was read to its end, 1 where it was turned down.
+fn status(listing: &[u8]) -> i32 {
+    let last = String::from_utf8_lossy(listing).lines().last().unwrap_or_default().to_string();
+    i32::from(!last.starts_with("end "))
+}
+
+/// What the program writes, and its status.
+fn listed(bundle: &Bundle, command: &[&str]) -> Result<(Vec<u8>, i32), String> {
     let mut child = start(command)?;
     let mut to = child.stdin.take().expect("the child's input is a pipe");
     let (bytes, piece) = (bundle.bytes.clone(), bundle.piece);
@@ -207,10 +213,9 @@ fn listed(bundle: &Bundle, command: &[&str]) -> Result<Vec<u8>, String> {
     });
     let output = child.wait_with_output().map_err(|error| error.to_string())?;
     writer.join().map_err(|_| "the writer of a bundle failed")?;
-    if output.status.success() {
-        Ok(output.stdout)
-    } else {
-        Err(format!("the program ended with {}", output.status))
+    match output.status.code() {
+        Some(code @ (0 | 1)) => Ok((output.stdout, code)),
+        _ => Err(format!("the program ended with {}", output.status)),
     }
 }
 
@@ -249,7 +254,10 @@ pub fn compare(amount: Amount, command: &[&str]) -> Result<(), String> {
     for bundle in &bundles {
         let expected = listing(&bundle.bytes);
         count(&mut tally, bundle, &expected);
-        let got = listed(bundle, command)?;
+        let (got, code) = listed(bundle, command)?;
+        if code != status(&expected) {
+            return Err(format!("the program ended with {code} on a bundle of {} bytes", bundle.bytes.len()));
+        }
         if got != expected {
             differences += 1;
         }
