@@ -1,4 +1,4 @@
-// Queries 1 to 5: deadlines, and the endpoint's constructors and match tests. Each puts its answer at a place of `out` and answers how
+// Queries 1 to 5: deadlines, and the endpoint's constructors and match tests. Each puts its answer at the start of `out` and answers how
 // long it is, or 0 where the body has not the query's length.
 use crate::fields;
 use crate::parts;

@@ -3,19 +3,17 @@
 -- constructors, decoders and encoders, which the proofs of functions cite; what they cite besides is passed on from here.
 -- Assumes nothing.
 pub use Rattle.octets.proofs.Tools.{refl, free, needs}
-use Rattle.octets.specs.Words.{ℕ, suc, _+_, _≤_, _≡_, Bool, true, false, cond, not, _&&_, List, [], _∷_, _++_, length, take, drop, eqb, leb}
+use Rattle.octets.specs.Words.{ℕ, suc, _+_, _≤_, _≡_, Bool, true, false, cond, List, _++_, length, take, drop, eqb, leb}
 use Rattle.octets.proofs.Tools.{sym, ap, _∙_, true≢false, arith, eq-eqb, ne-eqb, eqb-true, eqb-false, leb-true, le-leb}
-use lib.ListN.{length-append, length-drop}
 use lib.Seq.{take-at}
 use native.Mathlib.Nat.{zero-add}
 use Rattle.octets.specs.Octets.{Bytes, octetsAt, put}
 use Rattle.octets.proofs.OctetsLaws.{put-in, octets-whole}
-use Rattle.codec.specs.Layout.{Field, size, fieldsAt, laid, Fit}
-use Rattle.codec.specs.Inner.Stores.{puts}
-use Rattle.codec.specs.Codec.{Codec, asking, faultAt, isClean, firstFault, faultOf, ok, fieldsNumber, fieldsValue, decodeNumber, decodeValue, sound, bytes, roomAnswer, unsoundNumber, written, encodeNumber, Built, Made, Decoded, Encoded}
-use Rattle.codec.specs.Promises.{Returned, Accepted, Kept, Never, Constructed, Told, Laws}
+use Rattle.codec.specs.Layout.{size, fieldsAt, laid, Fit}
+use Rattle.codec.specs.Codec.{Codec, asking, faultAt, isClean, firstFault, faultOf, ok, decodeNumber, decodeValue, sound, bytes, roomAnswer, unsoundNumber, written, encodeNumber, Built, Made, Decoded, Encoded}
+use Rattle.codec.specs.Promises.{Accepted, Kept, Never, Constructed, Told, Laws}
 use Rattle.codec.proofs.TestLaws.{clean-passes}
-use Rattle.codec.proofs.LayoutLaws.{laid-fields, fields-laid, length-laid, fit-length, fit-fields, puts-laid, put-laid}
+use Rattle.codec.proofs.LayoutLaws.{laid-fields, fields-laid, length-laid, fit-length, fit-fields}
 
 -- What a record owes.
 pub record Lawful {R : Type 0} (C : Codec R) (Formed : R → Type 0) : Type 0 where

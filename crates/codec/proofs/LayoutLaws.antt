@@ -1,10 +1,10 @@
 -- The laws of layouts, proved once for every record. Assumes nothing.
-use Rattle.octets.specs.Words.{ℕ, zero, suc, _+_, _^_, _<_, _≤_, _≡_, List, [], _∷_, _++_, length, take, drop}
+use Rattle.octets.specs.Words.{ℕ, suc, _+_, _^_, _<_, _≤_, _≡_, List, [], _∷_, _++_, length, take, drop}
 use Rattle.octets.proofs.Tools.{refl, sym, ap, _∙_, arith}
 use mathlib.Core.List.{append-assoc}
 use native.Mathlib.Nat.{add-zero, zero-add, add-assoc}
 use lib.ListN.{length-append, drop-of-length-le}
-use Rattle.octets.specs.Octets.{Bytes, octetsAt, put, le, be, leBytes, beBytes}
+use Rattle.octets.specs.Octets.{Bytes, octetsAt, put}
 use Rattle.octets.proofs.OctetsLaws.{length-octets, length-leBytes, length-beBytes, le-leBytes, leBytes-le, be-beBytes, beBytes-be, put-append, put-in, Bytes-octets, octets-drop, octets-at, octets-part, le-below, be-below}
 use Rattle.codec.specs.Layout.{Field, little, big, width, numberOf, bytesOf, size, fieldsAt, laid, Fit}
 use Rattle.codec.specs.Inner.Stores.{puts}

@@ -1,7 +1,7 @@
 -- The fields of an inspection are a sound record's where the flag is listed and the fields in each part's place are: its rule is the parts'
 -- rules one after the other (`ruled` of `inspection`), and its numbers are theirs. Assumes nothing.
 use Rattle.octets.specs.Words.{ℕ, _^_, _≤_, _<_, _≡_, Bool, true, false, cond, not, _&&_, _||_, List, eqb, ltb}
-use Rattle.octets.proofs.Tools.{refl, sym, ap, _∙_, arith, true≢false, eq-eqb, ne-eqb, eqb-true, eqb-false, lt-ltb}
+use Rattle.octets.proofs.Tools.{refl, sym, _∙_, arith, true≢false, eq-eqb, ne-eqb, eqb-true, eqb-false, lt-ltb}
 use Rattle.octets.proofs.Choices.{and-left, and-true, and-false}
 use Rattle.octets.specs.Octets.{Bytes, octetsAt, le, allZero}
 use Rattle.codec.specs.Codec.{ok}

@@ -1,13 +1,13 @@
 -- What the functions inside a view leave: their answers, under 0 and under a refusal; one more zero at the start of a list, by
 -- induction on those that stand there; sixteen octets as two numbers of eight, and zeros in a run. Assumes nothing.
-use Rattle.octets.specs.Words.{ℕ, zero, suc, _+_, _<_, _≤_, _≡_, List, [], _∷_, _++_, length, getD, take, drop, replicate, set}
-use Rattle.octets.proofs.Tools.{refl, sym, ap, _∙_, arith, eq-eqb, ne-eqb, lt-leb}
+use Rattle.octets.specs.Words.{ℕ, zero, suc, _+_, _<_, _≡_, List, [], _∷_, _++_, length, drop, replicate, set}
+use Rattle.octets.proofs.Tools.{refl, sym, ap, _∙_, arith, eq-eqb, ne-eqb}
 use native.Mathlib.Numerals.{add-one}
 use Rattle.octets.specs.Octets.{Bytes, octetsAt, put, le, leBytes}
 use Rattle.octets.proofs.OctetsLaws.{length-octets, octets-append, put-append, put-parts}
 use Rattle.config.proofs.AddressLaws.{octets-back}
-use Rattle.codec.specs.Codec.{roomAnswer, written}
-use Rattle.codec.proofs.CodecLaws.{room-done, room-given, written-done}
+use Rattle.codec.specs.Codec.{roomAnswer}
+use Rattle.codec.proofs.CodecLaws.{room-done}
 use Rattle.export.specs.View.{cleared}
 use Rattle.export.specs.Inner.Steps.{imageCleared, Shown}
 

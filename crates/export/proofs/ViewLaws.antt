@@ -2,17 +2,15 @@
 -- its codec's laws, a slot for each field, room in the image for each own number, and that its fixed fields are those of every record.
 -- Assumes nothing.
 pub use Rattle.octets.proofs.Tools.{refl, free, needs}
-use Rattle.octets.specs.Words.{ℕ, suc, _-_, _^_, _<_, _≤_, _≡_, Bool, true, false, cond, _&&_, List, [], _∷_, _++_, length, drop, replicate, eqb, ltb, leb}
+use Rattle.octets.specs.Words.{ℕ, suc, _-_, _^_, _<_, _≤_, _≡_, Bool, true, false, cond, _&&_, List, [], _∷_, _++_, length, drop, eqb, ltb, leb}
 use Rattle.octets.proofs.Tools.{sym, ap, _∙_, arith, eq-eqb, ne-eqb, eqb-true, lt-ltb, le-ltb, ltb-true, lt-leb}
 use Rattle.octets.proofs.Choices.{and-left, and-right}
-use lib.ListN.{length-replicate, drop-of-length-le}
-use mathlib.Core.List.{append-nil}
 use Rattle.octets.specs.Octets.{Bytes, octetsAt, le}
 use Rattle.octets.proofs.OctetsLaws.{length-octets, le-below, Bytes-octets, pow-pos}
 use Rattle.codec.specs.Layout.{Field, width, size, fieldsAt, laid, Fit}
 use Rattle.codec.specs.Inner.Stores.{puts}
 use Rattle.codec.specs.Codec.{Codec, ok, decodeNumber, decodeValue, roomAnswer, unsoundNumber, written, bytes, encodeNumber, Encoded}
-use Rattle.codec.proofs.LayoutLaws.{fields-laid, length-laid, puts-laid, put-laid, fit-fields, length-fields}
+use Rattle.codec.proofs.LayoutLaws.{length-laid, puts-laid, put-laid, fit-fields, length-fields}
 use Rattle.codec.proofs.CodecLaws.{Lawful, accepted-ok, room-done, room-given, written-done, written-refused}
 use Rattle.export.specs.View.{Slot, own, fixed, View, pick, spread, wide, fitting, imageSize, image, viewDecodeNumber, viewDecodeOut, numbers, cleared, soundImage, imageRefusal, viewEncodeNumber, viewEncodeOut, ViewDecoded, ViewEncoded}
 use Rattle.export.specs.Inner.Steps.{Shown, shown, stored}

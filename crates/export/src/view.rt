@@ -1,8 +1,8 @@
 // What the views of the records share: the answers of a decoder into an image and of an encoder from one, and numbers moved between a
 // record's bytes and its fields.
-ghost use Rattle.octets.specs.Words.{_≤_, _≡_, _++_, length, drop};
+ghost use Rattle.octets.specs.Words.{_≡_, length};
 ghost use Rattle.octets.specs.Octets.{octetsAt, le, put, leBytes};
-ghost use Rattle.codec.specs.Codec.{roomAnswer, written};
+ghost use Rattle.codec.specs.Codec.{roomAnswer};
 ghost use Rattle.codec.specs.Head.{headLayout, headFields};
 ghost use Rattle.codec.specs.Inner.Stores.{puts};
 ghost use Rattle.export.specs.View.{cleared};

@@ -4,7 +4,6 @@ use gate::Socket;
 use units::BootNs;
 use units::RootCgroupId;
 use units::SocketCookie;
-ghost use Rattle.octets.specs.Words.{_≡_};
 ghost use Rattle.gate.specs.Gate.{given, gateOf};
 ghost use Rattle.export_gate.specs.Export.{Judged};
 

@@ -5,7 +5,7 @@ use Rattle.octets.specs.Words.{ℕ, _≡_, Bool, true, false, cond, not, _&&_, 
 use Rattle.octets.proofs.Tools.{refl, sym, ap, _∙_, true≢false, eq-eqb, eqb-true, not-false}
 use Rattle.octets.specs.Octets.{octetsAt, le}
 use Rattle.codec.proofs.CodecLaws.{accepted-ok}
-use Rattle.codec.specs.Codec.{decodeNumber, decodeValue}
+use Rattle.codec.specs.Codec.{decodeValue}
 use Rattle.octets.proofs.Choices.{and-right}
 use Rattle.records.specs.Current.{currentCodec}
 use Rattle.records.specs.Entry.{closed}

@@ -1,7 +1,7 @@
 -- The shapes of a proof of uniqueness, each once. A contract is an equation whose right side is made of the arguments, so two answers
 -- that meet it are equal: `as-told` where it gives the result, `as-left` where it gives what a lent slice holds at the end, `as-numbered`
 -- where it gives a thing by a number that no two share. Assumes nothing.
-use Rattle.octets.specs.Words.{ℕ, _≡_}
+use Rattle.octets.specs.Words.{_≡_}
 use Rattle.octets.proofs.Tools.{refl, sym, _∙_}
 
 pub as-told : {A B : Type 0} {x y z : A} {u : B} → x ≡ z → y ≡ z → (x ≡ y) × (u ≡ u)

@@ -1,5 +1,5 @@
 -- Document 01, 'Reading a packet': its decisions, in its order. Assumes nothing.
-use Rattle.octets.specs.Words.{ℕ, zero, suc, _+_, Bool, true, false, cond, not, _||_, List, [], _∷_, length, eqb, ltb}
+use Rattle.octets.specs.Words.{ℕ, zero, suc, _+_, Bool, cond, not, _||_, List, [], _∷_, length, eqb, ltb}
 use Rattle.octets.specs.Octets.{octetsAt, sameOctets}
 use Rattle.octets.specs.Lists.{among}
 use Rattle.endpoint.specs.declared.ProtectedEndpoint.{ProtectedEndpoint}

@@ -7,7 +7,6 @@ use lib.Dec.{lit<}
 use Rattle.codec.specs.Codec.{ok}
 use Rattle.octets.proofs.Choices.{and-left, and-right}
 use Rattle.codec.proofs.CodecLaws.{refl, Lawful, listed, laws}
-use Rattle.records.specs.declared.current.CurrentFenceToken.{CurrentFenceToken}
 use Rattle.records.specs.declared.entry.FenceEntryState.{FenceEntryState}
 use Rattle.records.specs.Key.{keyCodec, KeyFormed}
 use Rattle.records.specs.Mutation.{mutationCodec, MutationFormed}

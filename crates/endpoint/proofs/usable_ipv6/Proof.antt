@@ -1,6 +1,6 @@
 -- `usable_ipv6`: the tests are the definition's, the first two before the one for zeros; where the first ten bytes are not all zero, the
 -- address is neither all zero nor IPv4-mapped. Assumes nothing.
-use Rattle.octets.proofs.Tools.{needs, free, eq-eqb, ne-eqb, not-true, not-false}
+use Rattle.octets.proofs.Tools.{needs, free, eq-eqb, ne-eqb, not-true}
 use Rattle.octets.proofs.OctetsLaws.{zero-parts}
 use mathlib.Core.Bool.{or-true}
 use Rattle.endpoint.specs.Endpoint.{usableIpv6}

@@ -1,6 +1,6 @@
 -- `is_sound`: the port first, then the rule of the family, as in the definition. Assumes nothing.
 use mathlib.Core.Bool.{and-true}
-use Rattle.octets.proofs.Tools.{needs, free, eq-eqb, ne-eqb}
+use Rattle.octets.proofs.Tools.{free, eq-eqb, ne-eqb}
 use Rattle.endpoint.specs.Endpoint.{addressUsable, spareZero, soundEndpoint}
 use Rattle.endpoint.proofs.ProtectedEndpoint.is_sound as the
 
