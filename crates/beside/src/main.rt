@@ -17,7 +17,6 @@ mod verdicts;
 
 use libc::STDIN_FILENO;
 use program::Outcome;
-use program::Request;
 use program::Written;
 ghost use Rattle.octets.specs.Words.{_<_, _≤_, _≡_, length};
 
@@ -42,22 +41,13 @@ struct Step {
 }
 
 fn main() {
-    let request = program::asked();
-    let outcome = match request {
-        Request::Work => answer_stream(),
-        Request::Help => help(),
-        Request::Version => program::show(b"beside (threadwicket) 1.0\n"),
-        Request::Other => program::complain(
-            b"beside: it takes no argument: a stream of queries comes on standard input (beside --help says more)\n",
-        ),
-    };
-    program::end(outcome);
-}
-
-fn help() -> Outcome {
-    program::show(
+    if program::begins(
+        b"beside",
         b"usage: beside < QUERIES\n\nThe test driver: answers a stream of queries, so that the library can be run beside the original it is compared with. Its\nsource has the form of a stream; oracle/compare makes streams.\n\nStatus, as the script threadwicket gives it: 0 where every query was answered; 2 where the stream is malformed or could not be\nread, or the answers not be written, which a line on descriptor 2 says. The program by itself has no status.\n",
-    )
+        b"beside: it takes no argument: a stream of queries comes on standard input (beside --help says more)\n",
+    ) {
+        program::end(answer_stream());
+    }
 }
 
 // Answers the stream, block by block.
@@ -70,7 +60,7 @@ fn answer_stream() -> Outcome {
         }
         blocks += 1;
     }
-    Outcome::Failed
+    program::complain(b"beside: the stream does not end\n")
 }
 
 // Says what is wrong, and that nothing more is to be done.

@@ -14,6 +14,6 @@ longestListing = 273_060
 abbrev pub Bounded : Type 0
 Bounded = (s : List ℕ) → length (listing s) ≤ longestListing
 
--- so an output with this room always suffices: whoever lends it never sees number 4
+-- so an output with this room always suffices: whoever lends it never sees number 4, and is told whether the bundle is whole
 abbrev pub RoomSuffices : Type 0
-RoomSuffices = (s : List ℕ) (room : ℕ) → longestListing ≤ room → answerOf (listing s) (whole s) room .number ≡ 0
+RoomSuffices = (s : List ℕ) (room : ℕ) → longestListing ≤ room → answerOf (listing s) (whole s) room ≡ record { number = 0; length = length (listing s); whole = whole s }

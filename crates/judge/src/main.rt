@@ -3,29 +3,21 @@
 use libc::STDIN_FILENO;
 use program::Outcome;
 use program::Reading;
-use program::Request;
 use program::Written;
+ghost use Rattle.bundle.specs.Listing.{whole};
+ghost use Rattle.program.specs.Status.{Fits};
 
 // One byte more than the longest bundle shows that there is more.
 const ENOUGH: usize = bundle::MAX_BUNDLE + 1;
 
 fn main() {
-    let request = program::asked();
-    let outcome = match request {
-        Request::Work => judge(),
-        Request::Help => help(),
-        Request::Version => program::show(b"judge (threadwicket) 1.0\n"),
-        Request::Other => program::complain(
-            b"judge: it takes no file's name and no other argument: a bundle comes on standard input (judge --help says more)\n",
-        ),
-    };
-    program::end(outcome);
-}
-
-fn help() -> Outcome {
-    program::show(
+    if program::begins(
+        b"judge",
         b"usage: judge < BUNDLE\n\nPrints a line for each packet of the bundle on standard input: its ordinal, the verdict, the number of IPv6 extension\nheaders passed, and the verdict's counter slot or `-`. The last line is `end` and the number of packets; `bad` and the offset\nof a frame that cannot be read, after the packets before it; or `long` alone, for more than 65,536 bytes.\n\nStatus, as the script threadwicket gives it: 0 for a listing that ends in `end`; 1 for `bad` and `long`; 2 where the input\ncould not be read or the listing not be written, which a line on descriptor 2 says. The program by itself has no status.\n",
-    )
+        b"judge: it takes no file's name and no other argument: a bundle comes on standard input (judge --help says more)\n",
+    ) {
+        program::end(judge());
+    }
 }
 
 // Reads the bundle and lists it.
@@ -41,8 +33,10 @@ fn judge() -> Outcome {
     }
 }
 
-// Writes the listing of a bundle.
-fn list(input: &[u8]) -> Outcome {
+// Writes the listing of a bundle. A bundle that was not read to its end was turned down.
+fn list(input: &[u8]) -> Outcome
+    ensures { λ r. ⌜ Fits (whole (now (input .entry))) r ⌝ }
+{
     let mut out = [0u8; bundle::MAX_LISTING];
     let listed = bundle::list(input, &mut out);
     let length = listed.length;
@@ -52,16 +46,6 @@ fn list(input: &[u8]) -> Outcome {
     );
     match written {
         Written::Failed => Outcome::Failed,
-        Written::All => ending(listed.whole),
-        Written::Gone => ending(listed.whole),
-    }
-}
-
-// A bundle that was not read to its end was turned down.
-fn ending(whole: bool) -> Outcome {
-    if whole {
-        Outcome::Answered
-    } else {
-        Outcome::TurnedDown
+        Written::All | Written::Gone => Outcome::of_whole(listed.whole),
     }
 }

@@ -28,7 +28,7 @@ recorded = replicate 4 0 ++ leBytes 4 0x4f450102 ++ leBytes 8 9 ++ leBytes 8 3 +
 abbrev pub calling : ℕ → List ℕ
 calling time = leBytes 8 7 ++ (0 ∷ []) ++ leBytes 2 0 ++ replicate 16 0 ++ leBytes 8 9 ++ leBytes 8 time
 
--- the frames in 01's order; packet A is that of the places
+-- the frames in 01's order; packet A is that of the examples
 unfoldable pub case : List ℕ
 case =
     framed 1 configured ++ (framed 2 published ++ (framed 3 recorded ++ (framed 4 (calling 999) ++ (framed 5 A ++

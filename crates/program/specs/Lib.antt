@@ -1,2 +1,3 @@
--- What is promised of reading to a limit. Assumes nothing.
+-- The definitions that the contracts of `program` cite. Assumes nothing.
 pub mod Reading
+pub mod Status

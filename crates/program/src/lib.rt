@@ -1,15 +1,16 @@
 // What the programs share: what their arguments ask, reading to a limit, writing all or saying that it could not be done, and the status
-// that the script `threadwicket` hands on. No contract can say what is read or written, so these functions promise where bytes lie and how
-// many there are, and no more.
+// that the script `threadwicket` hands on. No contract can say what is read or written, so the functions that read or write promise where
+// bytes lie and how many there are, and which status an outcome is.
 use libc::STDERR_FILENO;
 use libc::STDOUT_FILENO;
-ghost use Rattle.octets.specs.Words.{_≤_, length};
+ghost use Rattle.octets.specs.Words.{_≡_, _≤_, length};
 ghost use Rattle.program.specs.Reading.{Told};
+ghost use Rattle.program.specs.Status.{digitOf, failed, ofWhole};
 
 // ---- arguments and status
 
 // What a program's arguments ask of it.
-pub enum Request {
+enum Request {
     // There are none: its work.
     Work,
     // `--help` alone.
@@ -28,6 +29,30 @@ pub enum Outcome {
     TurnedDown,
     // Its input could not be read or understood, or an answer could not be written: a line on descriptor 2 says so.
     Failed,
+}
+
+impl Outcome {
+    // The status, as a digit.
+    pub fn digit(self) -> u8
+        ensures { λ r. ⌜ r ≡ digitOf self ⌝ }
+    {
+        match self {
+            Outcome::Answered => b'0',
+            Outcome::TurnedDown => b'1',
+            Outcome::Failed => b'2',
+        }
+    }
+
+    // An input that was answered, whole or only to a fault.
+    pub fn of_whole(whole: bool) -> Outcome
+        ensures { λ r. ⌜ r ≡ ofWhole whole ⌝ }
+    {
+        if whole {
+            Outcome::Answered
+        } else {
+            Outcome::TurnedDown
+        }
+    }
 }
 
 // Where the status goes, if the first argument is `--status-fd=3`.
@@ -57,7 +82,7 @@ fn first_argument() -> usize
 }
 
 // What the arguments ask of a program that takes no others.
-pub fn asked() -> Request {
+fn asked() -> Request {
     let first = first_argument();
     let count = os::arg_count();
     if count <= first {
@@ -75,17 +100,27 @@ pub fn asked() -> Request {
     Request::Other
 }
 
-// Tells the status where it is asked for: the digit 0, 1 or 2, on descriptor 3.
+// Tells the status where it is asked for: its digit, on descriptor 3.
 pub fn end(outcome: Outcome) {
-    if !is_status_asked() {
-        return;
+    if is_status_asked() {
+        io::write_all(STATUS_FILENO, &[outcome.digit()]);
     }
-    match outcome {
-        Outcome::Answered => io::write_all(STATUS_FILENO, b"0"),
-        Outcome::TurnedDown => io::write_all(STATUS_FILENO, b"1"),
-        Outcome::Failed => io::write_all(STATUS_FILENO, b"2"),
-    }
-    ;
+}
+
+// Whether a program that takes no arguments is to do its work. Where it was asked for something else that is done here, and its status told:
+// the text of `--help` or the version is shown, and any other arguments are refused in one line.
+pub fn begins(name: &[u8], help: &[u8], refusal: &[u8]) -> bool {
+    let request = asked();
+    let outcome = match request {
+        Request::Work => {
+            return true;
+        }
+        Request::Help => show(name, help),
+        Request::Version => show_version(name),
+        Request::Other => complain(refusal),
+    };
+    end(outcome);
+    false
 }
 
 // ---- reading
@@ -207,28 +242,46 @@ pub enum Written {
 }
 
 // Writes a line that says what is wrong to descriptor 2.
-pub fn complain(line: &[u8]) -> Outcome {
+pub fn complain(line: &[u8]) -> Outcome
+    ensures { λ r. ⌜ r ≡ failed ⌝ }
+{
     io::write_all(STDERR_FILENO, line);
     Outcome::Failed
 }
 
-// Writes all of an answer to standard output, or else the complaint to descriptor 2.
-pub fn answer(text: &[u8], complaint: &[u8]) -> Written {
+// Writes all of a text to standard output, and says nothing where that fails.
+fn write(text: &[u8]) -> Written {
     if io::write_all(STDOUT_FILENO, text) {
         return Written::All;
     }
     if os::errno() == libc::EPIPE {
         return Written::Gone;
     }
-    io::write_all(STDERR_FILENO, complaint);
     Written::Failed
 }
 
-// Writes a text that was asked for by `--help` or `--version`.
-pub fn show(text: &[u8]) -> Outcome {
-    match answer(text, b"threadwicket: the text could not be written\n") {
-        Written::All => Outcome::Answered,
-        Written::Gone => Outcome::Answered,
-        Written::Failed => Outcome::Failed,
+// Writes all of an answer to standard output, or else the complaint to descriptor 2.
+pub fn answer(text: &[u8], complaint: &[u8]) -> Written {
+    let written = write(text);
+    if let Written::Failed = written {
+        io::write_all(STDERR_FILENO, complaint);
     }
+    written
+}
+
+// Writes a text that was asked for, or else a complaint that begins with the program's name.
+fn show(name: &[u8], text: &[u8]) -> Outcome {
+    match write(text) {
+        Written::All | Written::Gone => Outcome::Answered,
+        Written::Failed => {
+            io::write_all(STDERR_FILENO, name);
+            complain(b": the text could not be written\n")
+        }
+    }
+}
+
+// Writes a program's name and version; where the name cannot be written, the rest cannot either, which says so.
+fn show_version(name: &[u8]) -> Outcome {
+    write(name);
+    show(name, b" (threadwicket) 1.0\n")
 }

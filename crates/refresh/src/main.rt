@@ -5,7 +5,6 @@
 use deadline::RefreshDeadlineDecision;
 use libc::STDIN_FILENO;
 use program::Outcome;
-use program::Request;
 use program::Written;
 use units::BootNs;
 
@@ -47,22 +46,13 @@ struct Lines {
 }
 
 fn main() {
-    let request = program::asked();
-    let outcome = match request {
-        Request::Work => answer_input(),
-        Request::Help => help(),
-        Request::Version => program::show(b"refresh (threadwicket) 1.0\n"),
-        Request::Other => program::complain(
-            b"refresh: it takes no argument: lines of three times come on standard input (refresh --help says more)\n",
-        ),
-    };
-    program::end(outcome);
-}
-
-fn help() -> Outcome {
-    program::show(
+    if program::begins(
+        b"refresh",
         b"usage: refresh < LINES\n\nSays of each line OBSERVED PRIOR REQUESTED, three times of the boot clock in nanoseconds with blanks between them, whether a\nrefresh of the prior deadline to the requested one is applied: Apply, PriorExpired, RequestedDeadlineInvalid or\nDeadlineRegressed. It answers line by line.\n\nStatus, as the script threadwicket gives it: 0 where every line was answered; 2 where a line is not three numbers below 2^64,\nor the input could not be read or an answer not be written, which a line on descriptor 2 says. The program by itself has no\nstatus.\n",
-    )
+        b"refresh: it takes no argument: lines of three times come on standard input (refresh --help says more)\n",
+    ) {
+        program::end(answer_input());
+    }
 }
 
 // Reads what has come and answers its lines, until the input ends.
@@ -90,7 +80,7 @@ fn answer_input() -> Outcome {
         }
         reads += 1;
     }
-    Outcome::Failed
+    program::complain(b"refresh: the input does not end\n")
 }
 
 fn ending(failed: bool) -> Outcome {
@@ -130,9 +120,13 @@ fn take_byte(lines: Lines, byte: u8) -> Lines {
         return end_line(lines);
     }
     let line = put(lines.line, byte);
+    let number = lines.number;
+    if line.numbers > 3 {
+        return refuse_line(line, number);
+    }
     Lines {
         line,
-        number: lines.number,
+        number,
         over: false,
         failed: false,
     }
@@ -207,13 +201,7 @@ fn end_line(lines: Lines) -> Lines {
     let line = end_number(lines.line);
     let number = lines.number;
     if line.numbers != 3 {
-        refuse_line(number);
-        return Lines {
-            line,
-            number,
-            over: true,
-            failed: true,
-        };
+        return refuse_line(line, number);
     }
     let decision = deadline::evaluate_refresh_deadlines(
         BootNs(line.observed),
@@ -243,10 +231,17 @@ fn end_line(lines: Lines) -> Lines {
     }
 }
 
-fn refuse_line(line: u64) {
+// A line that is not three numbers, as soon as that is seen: nothing after it is read.
+fn refuse_line(line: Line, number: u64) -> Lines {
     program::complain(b"refresh: line ");
-    io::print_decimal(libc::STDERR_FILENO, line);
+    io::print_decimal(libc::STDERR_FILENO, number);
     program::complain(b" is not three numbers below 2^64: OBSERVED PRIOR REQUESTED\n");
+    Lines {
+        line,
+        number,
+        over: true,
+        failed: true,
+    }
 }
 
 fn print_decision(decision: RefreshDeadlineDecision) -> Written {
