@@ -9,19 +9,18 @@ use Rattle.octets.specs.Octets.{octetsAt, put}
 use Rattle.octets.proofs.OctetsLaws.{length-octets, put-in, length-put}
 use Rattle.text.specs.Text.{lastPlace, after, Wrote}
 use Rattle.text.proofs.TextLaws.{after-in}
-use Rattle.bundle.specs.Feed.{Feed, skip, onward, run, Next, called, over}
+use Rattle.bundle.specs.Feed.{skip, onward, mapFeed, Next, called, over}
 use Rattle.bundle.specs.Frames.{bodyAt, past, frameAt, initial, callOf, stepOf, frameStep, leftAt, feedAt, bundleOf}
-use Rattle.bundle.specs.Inner.Steps.{frameIs, held, stateOf, Desk, placeOf, deskStep, readStep, deskLeft, nextAt}
+use Rattle.bundle.specs.Cursor.{held, stateOf, startOf, Desk, desk, placeOf, deskStep, readStep, deskLeft, deskFeed, nextAt}
+use Rattle.bundle.specs.Promises.{Followed}
+use Rattle.bundle.specs.Inner.Steps.{frameIs}
 use Rattle.bundle.specs.Kinds.{Frame}
 use Rattle.bundle.specs.Kinds as frame
 use Rattle.bundle.specs.declared.frames.Frame.{Frame as Found}
 use Rattle.bundle.specs.declared.frames.Frame.the-variants as find
 use Rattle.bundle.specs.declared.frames.Cursor.{Cursor}
-use Rattle.bundle.proofs.FeedLaws.{next-step, read-keeps, mapStep, mapFeed, Leads, run-maps}
+use Rattle.bundle.proofs.FeedLaws.{next-step, read-keeps, mapStep, Leads, run-maps}
 use Rattle.bundle.proofs.FrameLaws.{size, left-size, desks-fall, held-in, held-out}
-
-abbrev pub desk : Cursor → List ℕ → Desk
-desk c t = record { cursor = c; table = t }
 
 -- ---- the next packet
 
@@ -136,9 +135,6 @@ along-at s c t (frame.Packet n) h k = (refl, record { few = omega (arith, k .few
 along-at s c t frame.End h k = (refl, tt)
 along-at s c t frame.Bad h k = (refl, tt)
 
-unfoldable pub deskFeed : List ℕ → Desk → Feed Desk
-deskFeed s d = run (readStep s) (deskLeft s) d
-
 pub desk-feed : (s : List ℕ) (d : Desk) → Standing s d → mapFeed (placeOf s) (deskFeed s d) ≡ feedAt s (placeOf s d)
 unfolding deskFeed feedAt
 desk-feed s d k =
@@ -146,12 +142,9 @@ desk-feed s d k =
     (λ a h. along-at s (a .cursor) (a .table) (frameAt s (a .cursor .at)) (left-size s (a .cursor .at)) h) (λ a. refl) d k
 
 -- "At first all is zero and the table empty"
-abbrev pub before-all : ℕ → Cursor
-before-all n = record { at = 0; gathered = 0; config = n; current = n; call = n }
-
-pub whole-feed : (s t : List ℕ) → length s ≤ length t → length t ≤ lastPlace → mapFeed (placeOf s) (deskFeed s (desk (before-all (length s)) t)) ≡ bundleOf s
+pub whole-feed : Followed
 unfolding bundleOf
 whole-feed s t h l =
     let none : (n : ℕ) → 0 < n → held s (length s) n ≡ replicate n 0 = λ n m. held-out s (length s) n (omega arith) in
-    desk-feed s (desk (before-all (length s)) t) (record { few = omega arith; room = h; fits = l }) ∙
+    desk-feed s (desk (startOf (length s)) t) (record { few = omega arith; room = h; fits = l }) ∙
     (λ i. feedAt s (record { at = 0; state = record { config = none 40 (omega arith) i; current = none 24 (omega arith) i; call = none 43 (omega arith) i; table = initial .table } }))

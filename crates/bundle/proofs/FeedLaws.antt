@@ -4,7 +4,7 @@
 use Rattle.octets.specs.Words.{ℕ, zero, suc, _<_, _≡_}
 use Rattle.octets.proofs.Tools.{refl, sym, ap, _∙_, arith}
 use Rattle.gate.specs.Gate.{Call}
-use Rattle.bundle.specs.Feed.{Ending, ended, Feed, Step, stop, skip, emit, onward, readIn, read, noCall, callThen, run, called, over, nextOf, beginning, Less, Falls, FeedByNext}
+use Rattle.bundle.specs.Feed.{Ending, ended, Feed, Step, stop, skip, emit, onward, readIn, read, noCall, callThen, run, mapFeed, called, over, nextOf, beginning, Less, Falls, FeedByNext}
 
 -- ---- one step, and then the rest
 
@@ -69,9 +69,6 @@ abbrev pub mapStep : {A B : Type 0} → (A → B) → Step A → Step B
 mapStep p (stop e) = stop e
 mapStep p (skip a) = skip (p a)
 mapStep p (emit c a) = emit c (p a)
-
-abbrev pub mapFeed : {A B : Type 0} → (A → B) → Feed A → Feed B
-mapFeed p f = record { calls = f .calls; ending = f .ending; last = p (f .last) }
 
 -- the place that a step leads to has P
 abbrev pub Leads : {A : Type 0} → (A → Type 0) → Step A → Type 0

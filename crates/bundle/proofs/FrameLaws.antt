@@ -11,7 +11,7 @@ use Rattle.gate.specs.Gate.{Answer, gateOf}
 use Rattle.gate.specs.declared.Socket.{Socket}
 use Rattle.bundle.specs.Feed.{Step, stop, skip, emit, onward, noCall, callThen, Less, Falls}
 use Rattle.bundle.specs.Frames.{lengthAt, kindAt, past, exactly, frameOf, frameAt, State, initial, Place, socketOf, callOf, stepOf, frameStep, leftAt, feedAt}
-use Rattle.bundle.specs.Inner.Steps.{held, deskStep, readStep, deskLeft}
+use Rattle.bundle.specs.Cursor.{held, deskStep, readStep, deskLeft}
 use Rattle.bundle.specs.declared.frames.Cursor.{Cursor}
 use Rattle.bundle.specs.Kinds.{Frame}
 use Rattle.bundle.specs.Kinds as frame

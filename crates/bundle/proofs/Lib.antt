@@ -1,9 +1,6 @@
--- The laws of `bundle`: feeds, frames, the cursor, what a line prints, how long a listing is, a listing that is under way, and the answer
--- as the contract's alone. Assumes nothing.
+-- The laws of `bundle`: feeds, frames, the cursor, how many calls there are, and the answers as the contracts' alone. Assumes nothing.
 pub mod FeedLaws
 pub mod FrameLaws
 pub mod DeskLaws
-pub mod Names
-pub mod Bound
-pub mod ListingLaws
+pub mod Counts
 pub mod Unique

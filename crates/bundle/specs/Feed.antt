@@ -50,6 +50,10 @@ callThen c b f = record { calls = c ∷ f .calls; ending = f .ending; last = f .
 abbrev pub run : {A : Type 0} → (A → Step A) → (A → ℕ) → A → Feed A
 run step left a = read noCall callThen step left a
 
+-- with its place seen as another's
+abbrev pub mapFeed : {A B : Type 0} → (A → B) → Feed A → Feed B
+mapFeed p f = record { calls = f .calls; ending = f .ending; last = p (f .last) }
+
 -- ---- the next call from a place on
 
 pub data Next (A : Type 0) : Type 0 where

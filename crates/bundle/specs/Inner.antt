@@ -1,2 +1,2 @@
--- What the functions inside `bundle` are held to. What a bundle and its listing mean does not rest on this. Assumes nothing.
+-- What the functions inside `bundle` are held to. What a bundle means does not rest on this. Assumes nothing.
 pub mod Steps

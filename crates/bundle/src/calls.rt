@@ -11,7 +11,7 @@ use units::SocketCookie;
 ghost use Rattle.octets.specs.Words.{_≤_, _≡_, length, take, replicate};
 ghost use Rattle.gate.specs.Gate.{gateOf, answerOf};
 ghost use Rattle.bundle.specs.Frames.{socketOf, callOf};
-ghost use Rattle.bundle.specs.Inner.Steps.{held, stateOf};
+ghost use Rattle.bundle.specs.Cursor.{held, stateOf};
 
 // The n bytes at a place of the input, or as many zeros where they do not lie inside.
 fn body<'a>(input: &'a [u8], zeros: &'a [u8], at: usize, n: usize) -> &'a [u8]
@@ -53,7 +53,7 @@ fn first(s: &[u8], n: usize) -> &[u8]
 }
 
 // The gate's answer for a packet, by what is in force at the cursor.
-pub(crate) fn judge(input: &[u8], table: &[u8], cursor: Cursor, packet: &[u8]) -> GateAnswer
+pub fn judge(input: &[u8], table: &[u8], cursor: Cursor, packet: &[u8]) -> GateAnswer
     ensures { λ r. ⌜ answerOf r ≡ gateOf (callOf (stateOf (now (input .entry)) cursor (now (table .entry))) (now (packet .entry))) ⌝ }
 {
     let zeros = [0u8; 43];

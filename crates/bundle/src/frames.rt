@@ -4,7 +4,8 @@ use records::cookie_value::FenceCookieValue;
 use records::current::CurrentFenceToken;
 ghost use Rattle.octets.specs.Words.{_≡_};
 ghost use Rattle.bundle.specs.Frames.{exactly, frameOf, frameAt};
-ghost use Rattle.bundle.specs.Inner.Steps.{frameIs, nextAt, nextIs};
+ghost use Rattle.bundle.specs.Cursor.{startOf, nextAt, nextIs};
+ghost use Rattle.bundle.specs.Inner.Steps.{frameIs};
 
 // A frame's body length and kind.
 const HEAD: usize = 6;
@@ -13,7 +14,7 @@ const HEAD: usize = 6;
 pub(crate) const CALL: usize = 43;
 
 // What stands at an offset.
-pub(crate) enum Frame {
+enum Frame {
     Config,
     Current,
     CookieValue,
@@ -28,7 +29,7 @@ pub(crate) enum Frame {
 
 // Where reading stands: the offset, how many bytes of the table are gathered, and the places in the input of the bodies in force. A body
 // that has not come yet has the end of the input for its place.
-pub(crate) struct Cursor {
+pub struct Cursor {
     pub at: usize,
     pub gathered: usize,
     pub config: usize,
@@ -37,7 +38,7 @@ pub(crate) struct Cursor {
 }
 
 // What comes next from a cursor on.
-pub(crate) enum Next {
+pub enum Next {
     // A packet, with the cursor after it: so many bytes, the last before that offset.
     Packet(Cursor, usize),
     // The end, with the cursor there.
@@ -82,9 +83,9 @@ fn frame_at(input: &[u8], at: usize) -> Frame
     frame_of(octets::get_u16_le(input, at + 4), len)
 }
 
-// Before the first frame.
-pub(crate) fn start(end: usize) -> Cursor
-    ensures { λ r. ⌜ r ≡ record { at = 0; gathered = 0; config = end; current = end; call = end } ⌝ }
+// Before the first frame of an input of `end` bytes.
+pub fn start(end: usize) -> Cursor
+    ensures { λ r. ⌜ r ≡ startOf end ⌝ }
 {
     Cursor {
         at: 0,
@@ -96,7 +97,7 @@ pub(crate) fn start(end: usize) -> Cursor
 }
 
 // Reads on from a cursor until a packet comes, or nothing more. Cookie values on the way are gathered in `table`, so far as it reaches.
-pub(crate) fn next_packet(input: &[u8], table: &mut [u8], from: Cursor) -> Next
+pub fn next_packet(input: &[u8], table: &mut [u8], from: Cursor) -> Next
     ensures { λ r. ⌜ nextIs (now (input .entry)) (now (table .exit)) r ≡ nextAt (now (input .entry)) (record { cursor = from; table = now (table .entry) }) ⌝ }
 {
     let mut cursor = from;

@@ -4,11 +4,11 @@ use libc::STDIN_FILENO;
 use program::Outcome;
 use program::Reading;
 use program::Written;
-ghost use Rattle.bundle.specs.Listing.{whole};
+ghost use Rattle.listing.specs.Listing.{whole};
 ghost use Rattle.program.specs.Status.{Fits};
 
 // One byte more than the longest bundle shows that there is more.
-const ENOUGH: usize = bundle::MAX_BUNDLE + 1;
+const ENOUGH: usize = listing::MAX_BUNDLE + 1;
 
 fn main() {
     if program::begins(
@@ -23,7 +23,7 @@ fn main() {
 // Reads the bundle and lists it.
 fn judge() -> Outcome {
     let mut space = [0u8; ENOUGH];
-    let input = program::read_input(STDIN_FILENO, bundle::MAX_BUNDLE, &mut space);
+    let input = program::read_input(STDIN_FILENO, listing::MAX_BUNDLE, &mut space);
     let n = input.length;
     let reading = input.reading;
     match reading {
@@ -37,8 +37,8 @@ fn judge() -> Outcome {
 fn list(input: &[u8]) -> Outcome
     ensures { λ r. ⌜ Fits (whole (now (input .entry))) r ⌝ }
 {
-    let mut out = [0u8; bundle::MAX_LISTING];
-    let listed = bundle::list(input, &mut out);
+    let mut out = [0u8; listing::MAX_LISTING];
+    let listed = listing::list(input, &mut out);
     let length = listed.length;
     let written = program::answer(
         &out[0..length],

@@ -5,7 +5,7 @@ use Rattle.gate.specs.Gate.{Call, gateOf}
 use Rattle.isolation.proofs.Calls.{isolated-rule, isolated}
 use Rattle.bundle.specs.Feed.{Ending}
 use Rattle.bundle.specs.Frames.{Place, bundleOf}
-use Rattle.bundle.specs.Listing.{line, linesBy, verdictLine, longest, listing}
+use Rattle.listing.specs.Listing.{line, linesBy, verdictLine, longest, listing}
 use Rattle.laws.specs.Listings.{AllAlike, IsolatedLine, IsolatedSheet, IsolatedListing}
 
 pub isolated-line : IsolatedLine

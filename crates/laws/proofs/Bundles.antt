@@ -14,7 +14,7 @@ use Rattle.table.specs.Table.{admissible, recordsIn, records, isUnder, under, f
 use Rattle.gate.specs.Gate.{viewOf, rules, answering, sameAddress, matches, headersOf}
 use Rattle.bundle.specs.Feed.{onward, readIn, read}
 use Rattle.bundle.specs.Frames.{exactly, frameOf, frameAt, callOf, stepOf, feedAt, bundleOf}
-use Rattle.bundle.specs.Listing.{nameOf, slotText, line, lastLine, linesBy, verdictLine, listing}
+use Rattle.listing.specs.Listing.{nameOf, slotText, line, lastLine, linesBy, verdictLine, listing}
 use Rattle.laws.specs.Bundles.{configured, published, recorded, case, CaseListed, edges, EdgesListed}
 
 pub case-listed : CaseListed

@@ -11,8 +11,8 @@ use Rattle.verdict.specs.declared.FenceVerdict.{FenceVerdict}
 use Rattle.gate.specs.Gate.{Call, answering, headersOf}
 use Rattle.bundle.specs.Feed.{Ending, ended, bad}
 use Rattle.bundle.specs.Frames.{bundleOf}
-use Rattle.bundle.specs.Listing.{Line, line, lastLine, linesBy, verdictLine, longest, listing}
-use Rattle.bundle.proofs.Names.{printed}
+use Rattle.listing.specs.Listing.{Line, line, lastLine, linesBy, verdictLine, longest, listing}
+use Rattle.listing.proofs.Names.{printed}
 use Rattle.laws.specs.Listings.{callLines, LinesThenLast, OneLineEach}
 
 -- ---- the lines of the calls, and the last

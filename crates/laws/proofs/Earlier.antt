@@ -11,7 +11,7 @@ use Rattle.octets.specs.Octets.{octetsAt, le}
 use Rattle.gate.specs.Gate.{Call}
 use Rattle.bundle.specs.Feed.{Feed, Step, stop, skip, emit, onward, noCall, callThen, Less}
 use Rattle.bundle.specs.Frames.{lengthAt, kindAt, past, frameOf, frameAt, State, Place, initial, stepOf, leftAt, feedAt, bundleOf}
-use Rattle.bundle.specs.Listing.{Line, lastLine, sheet, verdictLine, longest, listing}
+use Rattle.listing.specs.Listing.{Line, lastLine, sheet, verdictLine, longest, listing}
 use Rattle.laws.specs.Listings.{callLines, EarlierCallsStay, EarlierLinesStay, EarlierListingStays}
 use Rattle.bundle.specs.Kinds.{Frame}
 use Rattle.bundle.specs.Kinds as frame

@@ -3,7 +3,7 @@ use Rattle.octets.specs.Words.{ℕ, _≡_, List, [], _∷_, _++_, map, length, 
 use Rattle.octets.specs.Octets.{leBytes, beBytes}
 use Rattle.packet.specs.Example.{A}
 use Rattle.text.specs.Text.{ascii}
-use Rattle.bundle.specs.Listing.{listing}
+use Rattle.listing.specs.Listing.{listing}
 
 -- ---- the case
 

@@ -5,7 +5,7 @@ use Rattle.gate.specs.Gate.{Call}
 use Rattle.isolation.specs.Isolation.{Alike}
 use Rattle.bundle.specs.Feed.{Feed}
 use Rattle.bundle.specs.Frames.{bundleOf}
-use Rattle.bundle.specs.Listing.{Line, lastLine, sheet, verdictLine, longest, listing}
+use Rattle.listing.specs.Listing.{Line, lastLine, sheet, verdictLine, longest, listing}
 
 -- ---- one line for each packet
 

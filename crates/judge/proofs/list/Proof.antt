@@ -3,8 +3,8 @@
 use Rattle.octets.specs.Words.{_≡_, Bool, true, false}
 use Rattle.octets.proofs.Tools.{refl, sym, ap, _∙_, needs}
 use mathlib.Core.Path.{subst}
-use Rattle.bundle.specs.Listing.{whole}
-use Rattle.bundle.proofs.Bound.{room-suffices}
+use Rattle.listing.specs.Listing.{whole}
+use Rattle.listing.proofs.Bound.{room-suffices}
 use Rattle.program.specs.Status.{ofWhole, Fits}
 use Rattle.judge.proofs.list.Statement.{statement}
 use Rattle.judge.proofs.list.Tie as tie

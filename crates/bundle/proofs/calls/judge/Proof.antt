@@ -1,6 +1,6 @@
 -- `judge`: the gate is asked with the bodies in force, by their places, and with the packet. Assumes nothing.
 use Rattle.octets.proofs.Tools.{needs, free}
-use Rattle.bundle.specs.Inner.Steps.{stateOf}
+use Rattle.bundle.specs.Cursor.{stateOf}
 use Rattle.bundle.proofs.FrameLaws.{asked-as}
 use Rattle.bundle.proofs.calls.judge.Statement.{statement}
 use Rattle.bundle.proofs.calls.judge.Tie as tie

@@ -3,10 +3,11 @@ use Rattle.octets.specs.Words.{_+_, _-_, _≤_, _≡_, length}
 use Rattle.octets.proofs.Tools.{refl, sym, _∙_, arith, needs, free}
 use Rattle.bundle.specs.Feed.{onward, called, over}
 use Rattle.bundle.specs.Frames.{past}
-use Rattle.bundle.specs.Inner.Steps.{frameIs, deskStep, nextAt}
+use Rattle.bundle.specs.Cursor.{desk, deskStep, nextAt}
+use Rattle.bundle.specs.Inner.Steps.{frameIs}
 use Rattle.bundle.specs.declared.frames.Frame.{Frame}
 use Rattle.bundle.proofs.FrameLaws.{size, octets-part}
-use Rattle.bundle.proofs.DeskLaws.{desk, there, next-at, next-value, next-call}
+use Rattle.bundle.proofs.DeskLaws.{there, next-at, next-value, next-call}
 use Rattle.bundle.proofs.frames.next_packet.Statement.{statement}
 use Rattle.bundle.proofs.frames.next_packet.Tie as tie
 

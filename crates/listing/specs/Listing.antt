@@ -7,9 +7,9 @@ use Rattle.verdict.specs.declared.FenceVerdict.the-variants.{PassUnrelated, All
 use Rattle.verdict.specs.declared.CounterSlot.{CounterSlot}
 use Rattle.verdict.specs.declared.CounterSlot.the-variants.{Uncounted, Slot}
 use Rattle.gate.specs.Gate.{Call, answering, headersOf}
 use Rattle.bundle.specs.Feed.{Ending, ended, bad, Feed}
 use Rattle.bundle.specs.Frames.{bundleOf}
-use Rattle.bundle.specs.declared.Listed.{Listed}
+use Rattle.listing.specs.declared.Listed.{Listed}
 
 -- 01's names of the verdicts
 unfoldable pub nameOf : FenceVerdict → List ℕ

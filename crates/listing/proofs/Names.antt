@@ -7,7 +7,7 @@ use Rattle.text.specs.Promises.{newlines}
 use Rattle.verdict.specs.Verdict.{slotOf}
 use Rattle.verdict.specs.declared.FenceVerdict.{FenceVerdict}
 use Rattle.verdict.specs.declared.FenceVerdict.the-variants.{PassUnrelated, Allow, DropCookieZero, DropMissing, DropClosed, DropExpired, DropStaleToken, DropMalformed}
-use Rattle.bundle.specs.Listing.{nameOf, slotText}
+use Rattle.listing.specs.Listing.{nameOf, slotText}
 
 pub record Printed (v : FenceVerdict) : Type 0 where
   pub name : length (nameOf v) ≤ 14

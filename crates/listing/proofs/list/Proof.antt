@@ -2,9 +2,9 @@
 use Rattle.octets.specs.Words.{_≤_, length}
 use Rattle.octets.proofs.Tools.{sym, _∙_, arith, needs, not-true, not-false}
 use Rattle.text.specs.Text.{lastPlace}
-use Rattle.bundle.proofs.ListingLaws.{refused, done}
-use Rattle.bundle.proofs.list.Statement.{statement}
-use Rattle.bundle.proofs.list.Tie as tie
+use Rattle.listing.proofs.ListingLaws.{refused, done}
+use Rattle.listing.proofs.list.Statement.{statement}
+use Rattle.listing.proofs.list.Tie as tie
 
 returns : tie.Need-returns
 returns c = refused (sym (c .before .before .has-room .ensures) ∙ not-true _ (c .if1 .taken))

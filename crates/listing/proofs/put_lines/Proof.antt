@@ -3,13 +3,13 @@ use Rattle.octets.specs.Words.{_-_, _≤_, length}
 use Rattle.octets.proofs.Tools.{ap, _∙_, arith, needs, free}
 use Rattle.text.specs.Text.{lastPlace}
 use Rattle.text.proofs.TextLaws.{same-length}
 use Rattle.bundle.specs.Feed.{beginning}
-use Rattle.bundle.specs.Listing.{endsWell, lastLine, linesBy, verdictLine}
+use Rattle.listing.specs.Listing.{endsWell, lastLine, linesBy, verdictLine}
 use Rattle.bundle.proofs.FrameLaws.{octets-part}
-use Rattle.bundle.proofs.DeskLaws.{desk, deskFeed}
-use Rattle.bundle.proofs.ListingLaws.{Going, Comes, go-start, told-inside, told-fewer, go-line, go-last, last-ending, judged}
-use Rattle.bundle.proofs.put_lines.Statement.{statement}
-use Rattle.bundle.proofs.put_lines.Tie as tie
+use Rattle.bundle.specs.Cursor.{desk, deskFeed}
+use Rattle.listing.proofs.ListingLaws.{Going, Comes, go-start, told-inside, told-fewer, go-line, go-last, last-ending, judged}
+use Rattle.listing.proofs.put_lines.Statement.{statement}
+use Rattle.listing.proofs.put_lines.Tie as tie
 
 abbrev Inv-loop : tie.InvT-loop
 Inv-loop out₀ input table₀ cursor₀ ordinal₀ to₀ t10 t11 out table cursor ordinal to = Going verdictLine input table₀ table out₀ out cursor ordinal to

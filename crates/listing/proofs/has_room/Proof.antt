@@ -3,10 +3,10 @@ use Rattle.octets.specs.Words.{_≤_, length, leb}
 use Rattle.octets.proofs.Tools.{sym, ap, _∙_, arith, needs, le-leb}
 use Rattle.text.specs.Text.{lastPlace}
 use Rattle.text.proofs.TextLaws.{measures}
-use Rattle.bundle.specs.Listing.{listing}
-use Rattle.bundle.proofs.Bound.{no-longer}
-use Rattle.bundle.proofs.has_room.Statement.{statement}
-use Rattle.bundle.proofs.has_room.Tie as tie
+use Rattle.listing.specs.Listing.{listing}
+use Rattle.listing.proofs.Bound.{no-longer}
+use Rattle.listing.proofs.has_room.Statement.{statement}
+use Rattle.listing.proofs.has_room.Tie as tie
 
 returns : tie.Need-returns
 returns c =

@@ -5,9 +5,9 @@ use Rattle.text.specs.Text.{lastPlace}
 use Rattle.text.proofs.TextLaws.{then}
 use Rattle.verdict.specs.Verdict.{slotOf}
 use Rattle.verdict.proofs.Unique.{number-injective}
-use Rattle.bundle.specs.Listing.{line}
-use Rattle.bundle.proofs.lines.put_line.Statement.{statement}
-use Rattle.bundle.proofs.lines.put_line.Tie as tie
+use Rattle.listing.specs.Listing.{line}
+use Rattle.listing.proofs.lines.put_line.Statement.{statement}
+use Rattle.listing.proofs.lines.put_line.Tie as tie
 
 returns : tie.Need-returns
 unfolding line

@@ -4,7 +4,7 @@ use verdict::CounterSlot;
 use verdict::FenceVerdict;
 ghost use Rattle.octets.specs.Words.{_++_};
 ghost use Rattle.text.specs.Text.{ascii, Wrote};
-ghost use Rattle.bundle.specs.Listing.{nameOf, slotText, line};
+ghost use Rattle.listing.specs.Listing.{nameOf, slotText, line};
 
 // The verdict's name, with a space on each side.
 fn put_verdict(out: &mut [u8], at: usize, verdict: FenceVerdict) -> usize

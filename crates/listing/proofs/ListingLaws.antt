@@ -12,17 +12,17 @@ use Rattle.verdict.proofs.Unique.{slot-injective}
 use Rattle.gate.specs.Gate.{Call, answering, gateOf}
 use Rattle.gate.specs.Gate as gate
 use Rattle.gate.specs.declared.GateAnswer.{GateAnswer}
 use Rattle.bundle.specs.Feed.{Feed, beginning}
 use Rattle.bundle.specs.Frames.{State, callOf, bundleOf}
-use Rattle.bundle.specs.Listing.{Line, line, linesBy, sheet, verdictLine, whole, listing, answerOf, outputOf, Lists}
-use Rattle.bundle.specs.Inner.Steps.{stateOf, readStep, deskLeft, nextAt, nextIs}
+use Rattle.listing.specs.Listing.{Line, line, linesBy, sheet, verdictLine, whole, listing, answerOf, outputOf, Lists}
+use Rattle.bundle.specs.Cursor.{stateOf, startOf, desk, readStep, deskLeft, deskFeed, nextAt, nextIs}
 use Rattle.bundle.specs.declared.frames.Cursor.{Cursor}
 use Rattle.bundle.specs.declared.frames.Next.{Next as Told}
 use Rattle.bundle.specs.declared.frames.Next.the-variants as told
 use Rattle.bundle.proofs.FeedLaws.{feed-by-next}
 use Rattle.bundle.proofs.FrameLaws.{desks-fall}
-use Rattle.bundle.proofs.DeskLaws.{desk, Inside, inside, deskFeed, before-all, whole-feed}
-use Rattle.bundle.proofs.Bound.{few-calls}
+use Rattle.bundle.proofs.DeskLaws.{Inside, inside, whole-feed}
+use Rattle.bundle.proofs.Counts.{few-calls}
 
 -- the lines of a feed from an ordinal on
 abbrev pub linesOf : {A : Type 0} → Line → ℕ → Feed A → List ℕ
@@ -38,7 +38,7 @@ pub record Going (g : Line) (s t₀ t d₀ d : List ℕ) (c : Cursor) (i w : ℕ
   pub ending : deskFeed s (desk c t) .ending ≡ bundleOf s .ending
   pub owed : (d′ : List ℕ) (r : ℕ) → Wrote d w (linesOf g i (deskFeed s (desk c t))) d′ r → Wrote d₀ 0 (sheet g (bundleOf s)) d′ r
 
-pub go-start : (g : Line) (s t d : List ℕ) → length s ≤ length t → length t ≤ lastPlace → length d ≤ lastPlace → Going g s t t d d (before-all (length s)) 0 0
+pub go-start : (g : Line) (s t d : List ℕ) → length s ≤ length t → length t ≤ lastPlace → length d ≤ lastPlace → Going g s t t d d (startOf (length s)) 0 0
 go-start g s t d h l m =
     let same = whole-feed s t h l in
     record {

@@ -1,8 +1,8 @@
 -- `put_listing`: by the test of the bundle's length. Assumes nothing.
 use Rattle.octets.proofs.Tools.{needs, free, lt-ltb, le-ltb}
-use Rattle.bundle.specs.Listing.{whole, listing}
-use Rattle.bundle.proofs.put_listing.Statement.{statement}
-use Rattle.bundle.proofs.put_listing.Tie as tie
+use Rattle.listing.specs.Listing.{whole, listing}
+use Rattle.listing.proofs.put_listing.Statement.{statement}
+use Rattle.listing.proofs.put_listing.Tie as tie
 
 returns : tie.Need-returns
 unfolding listing whole

@@ -1,8 +1,8 @@
 -- `put_verdict`: each name with its spaces is the text that is written. Assumes nothing.
 use Rattle.octets.proofs.Tools.{needs, free}
-use Rattle.bundle.specs.Listing.{nameOf}
-use Rattle.bundle.proofs.lines.put_verdict.Statement.{statement}
-use Rattle.bundle.proofs.lines.put_verdict.Tie as tie
+use Rattle.listing.specs.Listing.{nameOf}
+use Rattle.listing.proofs.lines.put_verdict.Statement.{statement}
+use Rattle.listing.proofs.lines.put_verdict.Tie as tie
 
 pub put-verdict-spec : {M : Type 1} → statement M
 unfolding nameOf

@@ -1,8 +1,8 @@
 -- `put_slot`: a dash, or the slot's number. Assumes nothing.
 use Rattle.octets.proofs.Tools.{needs, free}
-use Rattle.bundle.specs.Listing.{slotText}
-use Rattle.bundle.proofs.lines.put_slot.Statement.{statement}
-use Rattle.bundle.proofs.lines.put_slot.Tie as tie
+use Rattle.listing.specs.Listing.{slotText}
+use Rattle.listing.proofs.lines.put_slot.Statement.{statement}
+use Rattle.listing.proofs.lines.put_slot.Tie as tie
 
 returns : tie.Need-returns
 unfolding slotText
