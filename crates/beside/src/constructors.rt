@@ -3,15 +3,15 @@
 // every field of the record that the decoder gives for those bytes, as `fields` lists them.
 use crate::fields;
 use crate::parts;
+use authority::current::CurrentFenceToken;
+use authority::mutation::FenceMutationAuthority;
 use config::FenceConfig;
 use inspection::FenceInspection;
 use inspection::InspectionAnswer;
 use inspection::inspected::InspectedEntry;
 use records::cookie_value::FenceCookieValue;
-use records::current::CurrentFenceToken;
 use records::entry::FenceEntry;
 use records::key::FenceCookieKey;
-use records::mutation::FenceMutationAuthority;
 use units::BootNs;
 use units::ControlEpoch;
 use units::DurableFenceToken;

@@ -1,12 +1,12 @@
 // The fields of each record, by their accessors, as an answer has them.
+use authority::current::CurrentFenceToken;
+use authority::mutation::FenceMutationAuthority;
 use endpoint::ProtectedEndpoint;
 use inspection::inspected::InspectedEntry;
 use records::cookie_value::FenceCookieValue;
-use records::current::CurrentFenceToken;
 use records::entry::FenceEntry;
 use records::entry::FenceEntryState;
 use records::key::FenceCookieKey;
-use records::mutation::FenceMutationAuthority;
 ghost use Rattle.octets.specs.Words.{_≤_};
 
 // Token, cookie, whether it is lifecycle-open, whether it is retirement-closed: 18 bytes.

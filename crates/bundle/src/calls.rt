@@ -1,10 +1,10 @@
 // A packet judged by what is in force at a cursor.
 use crate::frames::CALL;
 use crate::frames::Cursor;
+use authority::current::CurrentFenceToken;
 use config::FenceConfig;
 use gate::GateAnswer;
 use gate::Socket;
-use records::current::CurrentFenceToken;
 use units::BootNs;
 use units::RootCgroupId;
 use units::SocketCookie;

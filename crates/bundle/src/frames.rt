@@ -1,7 +1,7 @@
 // The frames of a bundle: what stands at an offset, what is in force there, and the next packet.
+use authority::current::CurrentFenceToken;
 use config::FenceConfig;
 use records::cookie_value::FenceCookieValue;
-use records::current::CurrentFenceToken;
 ghost use Rattle.octets.specs.Words.{_≡_};
 ghost use Rattle.bundle.specs.Frames.{exactly, frameOf, frameAt};
 ghost use Rattle.bundle.specs.Cursor.{startOf, nextAt, nextIs};

@@ -3,7 +3,7 @@
 -- constructors, decoders and encoders, which the proofs of functions cite; what they cite besides is passed on from here.
 -- Assumes nothing.
 pub use Rattle.octets.proofs.Tools.{refl, free, needs}
-use Rattle.octets.specs.Words.{ℕ, suc, _+_, _≤_, _≡_, Bool, true, false, cond, List, _++_, length, take, drop, eqb, leb}
+use Rattle.octets.specs.Words.{ℕ, suc, _+_, _≤_, _≡_, Bool, true, false, cond, List, _∷_, _++_, length, take, drop, eqb, leb}
 use Rattle.octets.proofs.Tools.{sym, ap, _∙_, true≢false, arith, eq-eqb, ne-eqb, eqb-true, eqb-false, leb-true, le-leb}
 use lib.Seq.{take-at}
 use native.Mathlib.Nat.{zero-add}
@@ -29,6 +29,10 @@ pub record Lawful {R : Type 0} (C : Codec R) (Formed : R → Type 0) : Type 0 wh
 -- numbers that fit are the list of them, so it is enough to know each
 pub listed : {R : Type 0} (C : Codec R) (vs : List ℕ) → Fit (C .layout) vs → octetsAt vs 0 (length (C .layout)) ≡ vs
 listed C vs f = octets-whole vs (length (C .layout)) (fit-length (C .layout) vs f)
+
+-- two numbers at the head of a list, each by an equal one
+pub lead : {x y z w : ℕ} {l : List ℕ} → x ≡ z → y ≡ w → x ∷ y ∷ l ≡ z ∷ w ∷ l
+lead {l = l} p q = λ i. p i ∷ q i ∷ l
 
 -- ---- of two tests
 

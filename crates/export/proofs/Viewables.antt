@@ -2,10 +2,10 @@
 -- Assumes nothing.
 use Rattle.octets.specs.Words.{_≡_}
 use Rattle.octets.proofs.Tools.{refl}
-use Rattle.records.specs.declared.current.CurrentFenceToken.{CurrentFenceToken}
-use Rattle.records.specs.declared.mutation.FenceMutationAuthority.{FenceMutationAuthority}
-use Rattle.records.specs.Current.{CurrentFormed}
-use Rattle.records.specs.Mutation.{MutationFormed}
+use Rattle.authority.specs.declared.current.CurrentFenceToken.{CurrentFenceToken}
+use Rattle.authority.specs.declared.mutation.FenceMutationAuthority.{FenceMutationAuthority}
+use Rattle.authority.specs.Current.{CurrentFormed}
+use Rattle.authority.specs.Mutation.{MutationFormed}
 use Rattle.records.specs.Key.{KeyFormed}
 use Rattle.records.specs.Entry.{EntryFormed}
 use Rattle.records.specs.CookieValue.{CookieValueFormed}
@@ -13,7 +13,8 @@ use Rattle.config.specs.Config.{ConfigFormed}
 use Rattle.inspection.specs.declared.inspected.InspectedEntry.{InspectedEntry}
 use Rattle.inspection.specs.declared.inspected.InspectedEntry.the-variants.{Absent, Present}
 use Rattle.inspection.specs.Inspection.{inspection, inspectionCodec, InspectionFormed}
-use Rattle.records.proofs.RecordLaws.{current-lawful, mutation-lawful, key-lawful, entry-lawful, cookie-value-lawful}
+use Rattle.authority.proofs.AuthorityLaws.{current-lawful, mutation-lawful}
+use Rattle.records.proofs.RecordLaws.{key-lawful, entry-lawful, cookie-value-lawful}
 use Rattle.config.proofs.ConfigLaws.{config-lawful}
 use Rattle.inspection.proofs.InspectionLaws.{inspection-lawful}
 use Rattle.export.specs.View.{pick, spread}

@@ -1,15 +1,15 @@
 -- The views of the seven records: which fields of document 01's 'Record layouts' are a record's own numbers. Marks, versions and zeros
 -- are not. Assumes nothing.
 use Rattle.octets.specs.Words.{ℕ, List, [], _∷_, _++_}
-use Rattle.records.specs.declared.current.CurrentFenceToken.{CurrentFenceToken}
-use Rattle.records.specs.declared.mutation.FenceMutationAuthority.{FenceMutationAuthority}
+use Rattle.authority.specs.declared.current.CurrentFenceToken.{CurrentFenceToken}
+use Rattle.authority.specs.declared.mutation.FenceMutationAuthority.{FenceMutationAuthority}
 use Rattle.records.specs.declared.key.FenceCookieKey.{FenceCookieKey}
 use Rattle.records.specs.declared.entry.FenceEntry.{FenceEntry}
 use Rattle.records.specs.declared.cookie_value.FenceCookieValue.{FenceCookieValue}
 use Rattle.config.specs.declared.FenceConfig.{FenceConfig}
 use Rattle.inspection.specs.declared.FenceInspection.{FenceInspection}
-use Rattle.records.specs.Current.{currentCodec}
-use Rattle.records.specs.Mutation.{mutationCodec}
+use Rattle.authority.specs.Current.{currentCodec}
+use Rattle.authority.specs.Mutation.{mutationCodec}
 use Rattle.records.specs.Key.{keyCodec}
 use Rattle.records.specs.Entry.{entryCodec}
 use Rattle.records.specs.CookieValue.{cookieValueCodec}

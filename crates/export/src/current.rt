@@ -1,5 +1,5 @@
 // The current record for programs in other languages. Its fields: control, token, cookie.
-use records::current::CurrentFenceToken;
+use authority::current::CurrentFenceToken;
 use units::DurableFenceToken;
 use units::SocketCookie;
 ghost use Rattle.octets.specs.Words.{_≡_, [], _∷_};
@@ -47,7 +47,7 @@ pub extern "C" fn threadwicket_current_encode(fields: &[u8], bytes: &mut [u8]) -
         return 3;
     }
     let word = control as u32;
-    if !records::current::rule(0, word, token, cookie) {
+    if !authority::current::rule(0, word, token, cookie) {
         return 3;
     }
     if bytes.len() < CurrentFenceToken::LEN {

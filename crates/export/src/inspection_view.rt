@@ -1,7 +1,7 @@
 // An inspection for programs in other languages. Its fields: the flag, then those of the current record, of the mutation authority and of
 // the cookie value, which are zero with flag 0.
+use authority::mutation::FenceMutationAuthority;
 use inspection::FenceInspection;
-use records::mutation::FenceMutationAuthority;
 use units::BootNs;
 use units::ControlEpoch;
 use units::DurableFenceToken;
@@ -25,7 +25,7 @@ fn current_is_sound(fields: &[u8]) -> bool
     if 0xffff_ffff < control {
         return false;
     }
-    records::current::rule(
+    authority::current::rule(
         0,
         control as u32,
         DurableFenceToken(token),

@@ -1,5 +1,5 @@
 // The mutation authority for programs in other languages. Its fields: generation, claim.
-use records::mutation::FenceMutationAuthority;
+use authority::mutation::FenceMutationAuthority;
 ghost use Rattle.octets.specs.Words.{_≡_};
 ghost use Rattle.export.specs.View.{soundImage, ViewDecoded, ViewEncoded};
 ghost use Rattle.export.specs.Views.{mutationView};

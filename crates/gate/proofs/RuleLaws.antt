@@ -5,7 +5,7 @@ use Rattle.octets.proofs.Tools.{refl, sym, ap, _∙_, eq-eqb, ne-eqb, not-true,
 use Rattle.codec.specs.Codec.{Codec, Decoded}
 use Rattle.endpoint.specs.declared.ProtectedEndpoint.{ProtectedEndpoint}
 use Rattle.config.specs.Config.{configCodec}
-use Rattle.records.specs.Current.{currentCodec}
+use Rattle.authority.specs.Current.{currentCodec}
 use Rattle.packet.specs.Reading.{classifyOf}
 use Rattle.octets.proofs.Choices.{cond-all}
 use Rattle.verdict.specs.Verdict.{slotOf}

@@ -5,11 +5,11 @@ use Rattle.octets.specs.Octets.{octetsAt, sameOctets}
 use Rattle.codec.specs.Codec.{Codec, decodeNumber, decodeValue}
 use Rattle.endpoint.specs.declared.ProtectedEndpoint.{ProtectedEndpoint}
 use Rattle.config.specs.Config.{configCodec}
-use Rattle.records.specs.Current.{currentCodec}
+use Rattle.authority.specs.Current.{currentCodec}
 use Rattle.records.specs.Entry.{closed}
 use Rattle.records.specs.CookieValue.{cookieValueCodec}
 use Rattle.config.specs.declared.FenceConfig.{FenceConfig}
-use Rattle.records.specs.declared.current.CurrentFenceToken.{CurrentFenceToken}
+use Rattle.authority.specs.declared.current.CurrentFenceToken.{CurrentFenceToken}
 use Rattle.records.specs.declared.cookie_value.FenceCookieValue.{FenceCookieValue}
 use Rattle.packet.specs.Reading.{Answer as Reading, protected, stop, classifyOf}
 use Rattle.packet.specs.Answers.{isUnrelated, isIndeterminate}

@@ -1,10 +1,10 @@
 // The joined gate: one call decides what becomes of a packet, from bytes as a hook finds them.
+use authority::current::CurrentFenceToken;
 use config::FenceConfig;
 use endpoint::ProtectedEndpoint;
 use packet::PacketEndpointDisposition;
 use packet::PacketReading;
 use records::cookie_value::FenceCookieValue;
-use records::current::CurrentFenceToken;
 use records::entry::FenceEntryState;
 use units::BootNs;
 use units::DurableFenceToken;

@@ -16,12 +16,12 @@ use Rattle.codec.specs.Head.{headLayout, headFields}
 use Rattle.codec.proofs.TestLaws.{and-left, and-right, passes-append, passes-shifted, passes-given}
 use Rattle.codec.proofs.LayoutLaws.{fit-append, put-two}
 use Rattle.codec.proofs.CodecLaws.{Lawful, listed, laws}
-use Rattle.records.specs.declared.current.CurrentFenceToken.{CurrentFenceToken}
-use Rattle.records.specs.declared.mutation.FenceMutationAuthority.{FenceMutationAuthority}
-use Rattle.records.specs.Current.{currentCodec}
-use Rattle.records.specs.Mutation.{mutationCodec}
+use Rattle.authority.specs.declared.current.CurrentFenceToken.{CurrentFenceToken}
+use Rattle.authority.specs.declared.mutation.FenceMutationAuthority.{FenceMutationAuthority}
+use Rattle.authority.specs.Current.{currentCodec}
+use Rattle.authority.specs.Mutation.{mutationCodec}
 use Rattle.records.specs.CookieValue.{cookieValueCodec}
-use Rattle.records.proofs.RecordLaws.{current-lawful, mutation-lawful}
+use Rattle.authority.proofs.AuthorityLaws.{current-lawful, mutation-lawful}
 use Rattle.inspection.specs.declared.inspected.InspectedEntry.{InspectedEntry}
 use Rattle.inspection.specs.declared.inspected.InspectedEntry.the-variants.{Absent, Present}
 use Rattle.inspection.specs.declared.FenceInspection.{FenceInspection}

@@ -5,10 +5,10 @@ use Rattle.octets.specs.Octets.{allZero}
 use Rattle.codec.specs.Layout.{Field, little}
 use Rattle.codec.specs.Codec.{Test, test, shifted, given, Codec}
 use Rattle.codec.specs.Head.{headLayout, headFields, headTests}
-use Rattle.records.specs.declared.current.CurrentFenceToken.{CurrentFenceToken}
-use Rattle.records.specs.declared.mutation.FenceMutationAuthority.{FenceMutationAuthority}
-use Rattle.records.specs.Current.{currentCodec, CurrentFormed}
-use Rattle.records.specs.Mutation.{mutationCodec, MutationFormed}
+use Rattle.authority.specs.declared.current.CurrentFenceToken.{CurrentFenceToken}
+use Rattle.authority.specs.declared.mutation.FenceMutationAuthority.{FenceMutationAuthority}
+use Rattle.authority.specs.Current.{currentCodec, CurrentFormed}
+use Rattle.authority.specs.Mutation.{mutationCodec, MutationFormed}
 use Rattle.records.specs.CookieValue.{cookieValueCodec}
 use Rattle.inspection.specs.declared.inspected.InspectedEntry.{InspectedEntry}
 use Rattle.inspection.specs.declared.inspected.InspectedEntry.the-variants.{Absent}

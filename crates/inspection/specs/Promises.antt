@@ -2,8 +2,8 @@
 use Rattle.octets.specs.Words.{_≡_, _&&_}
 use Rattle.codec.specs.Codec.{sound}
 use Rattle.codec.specs.Promises.{Laws, InOrder}
-use Rattle.records.specs.Current.{currentCodec}
-use Rattle.records.specs.Mutation.{mutationCodec}
+use Rattle.authority.specs.Current.{currentCodec}
+use Rattle.authority.specs.Mutation.{mutationCodec}
 use Rattle.inspection.specs.declared.FenceInspection.{FenceInspection}
 use Rattle.inspection.specs.Inspected.{soundPart}
 use Rattle.inspection.specs.Inspection.{inspectionCodec, InspectionFormed}

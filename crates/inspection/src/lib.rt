@@ -3,9 +3,9 @@
 pub mod inspected;
 
 use crate::inspected::InspectedEntry;
+use authority::current::CurrentFenceToken;
+use authority::mutation::FenceMutationAuthority;
 use codec::Head;
-use records::current::CurrentFenceToken;
-use records::mutation::FenceMutationAuthority;
 ghost use Rattle.octets.specs.Words.{_≡_};
 ghost use Rattle.codec.specs.Codec.{passes, Made, Decoded, Encoded, sound};
 ghost use Rattle.codec.specs.Head.{headNumbers};

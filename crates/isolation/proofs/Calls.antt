@@ -4,7 +4,7 @@ use Rattle.octets.specs.Words.{_≡_, cond, not, _&&_, eqb}
 use Rattle.octets.proofs.Tools.{sym, ap, _∙_}
 use Rattle.codec.specs.Codec.{decodeValue}
 use Rattle.config.specs.Config.{configCodec}
-use Rattle.records.specs.Current.{currentCodec}
+use Rattle.authority.specs.Current.{currentCodec}
 use Rattle.packet.specs.Reading.{classifyOf}
 use Rattle.isolation.proofs.Reading.{isolated-reading}
 use Rattle.verdict.specs.Verdict.{slotOf}

@@ -6,7 +6,7 @@ use Rattle.octets.specs.Lists.{bytesAt, inside}
 use Rattle.codec.specs.Codec.{decodeNumber, decodeValue}
 use Rattle.endpoint.specs.Endpoint.{usableIpv4, usableIpv6, addressUsable, spareZero}
 use Rattle.config.specs.Config.{capacityFits}
-use Rattle.records.specs.Current.{currentListed, tokenFits, cookieFits}
+use Rattle.authority.specs.Current.{currentListed, tokenFits, cookieFits}
 use Rattle.records.specs.Entry.{stateListed, deadlineFits, epochFits}
 use Rattle.packet.specs.Reading.{sortOf, udpOf, passOf, countedOf, fragmentOf, stepOf, walkOf, ipv4Head, ipv6Head, known, classifyOf}
 use Rattle.packet.specs.Example.{endpoint4500, A}

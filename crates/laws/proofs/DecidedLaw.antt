@@ -7,7 +7,7 @@ use Rattle.octets.specs.Octets.{octetsAt, le}
 use Rattle.codec.proofs.CodecLaws.{accepted-ok}
 use Rattle.codec.specs.Codec.{decodeValue}
 use Rattle.octets.proofs.Choices.{and-right}
-use Rattle.records.specs.Current.{currentCodec}
+use Rattle.authority.specs.Current.{currentCodec}
 use Rattle.records.specs.Entry.{closed}
 use Rattle.records.specs.CookieValue.{cookieValueCodec, entryOf}
 use Rattle.packet.specs.Reading.{Disposition, protected}

@@ -3,8 +3,8 @@ use Rattle.octets.proofs.Tools.{refl}
 use Rattle.octets.specs.Octets.{octetsAt, le, be, sameOctets}
 use Rattle.codec.specs.Codec.{decodeNumber, decodeValue}
 use Rattle.deadline.specs.Deadline.{refreshDecision}
-use Rattle.records.specs.Mutation.{claimFits}
-use Rattle.records.specs.Current.{currentListed, tokenFits, cookieFits}
+use Rattle.authority.specs.Mutation.{claimFits}
+use Rattle.authority.specs.Current.{currentListed, tokenFits, cookieFits}
 use Rattle.packet.specs.Reading.{sortOf, udpOf, passOf, countedOf, fragmentOf, stepOf, walkOf, ipv4Head, ipv6Head, known, classifyOf}
 use Rattle.packet.specs.Example.{endpoint4500, A}
 use Rattle.laws.specs.Examples.{examples, holds, all, ExamplesHold}

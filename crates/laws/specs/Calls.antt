@@ -4,7 +4,7 @@ use Rattle.octets.specs.Words.{ℕ, _≡_, true, false, List, [], _∷_, _++_, 
 use Rattle.codec.specs.Codec.{bytes}
 use Rattle.endpoint.specs.declared.ProtectedEndpoint.{ProtectedEndpoint}
 use Rattle.config.specs.Config.{config, configCodec}
-use Rattle.records.specs.Current.{current, currentCodec}
+use Rattle.authority.specs.Current.{current, currentCodec}
 use Rattle.records.specs.CookieValue.{cookieValue, cookieValueCodec}
 use Rattle.records.specs.declared.entry.FenceEntryState.the-variants.{Active, TerminalClosed}
 use Rattle.packet.specs.Example.{endpoint4500, A}

@@ -4,8 +4,8 @@ use Rattle.codec.specs.Codec.{fieldsNumber, decodeNumber, decodeValue}
 use Rattle.deadline.specs.Deadline.{decisionNumber, refreshDecision}
 use Rattle.deadline.specs.declared.RefreshDeadlineDecision.{RefreshDeadlineDecision}
 use Rattle.deadline.specs.declared.RefreshDeadlineDecision.the-variants.{Apply, RequestedDeadlineInvalid, PriorExpired}
-use Rattle.records.specs.Mutation.{mutationCodec}
-use Rattle.records.specs.Current.{currentCodec}
+use Rattle.authority.specs.Mutation.{mutationCodec}
+use Rattle.authority.specs.Current.{currentCodec}
 use Rattle.packet.specs.Answers.{dispositionNumber}
 use Rattle.packet.specs.Reading.{Disposition, protected, unrelated, indeterminate, classifyOf}
 use Rattle.packet.specs.Example.{endpoint4500, A}

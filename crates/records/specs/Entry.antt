@@ -1,5 +1,5 @@
 -- Document 01, 'Record layouts': "Entry, 32: four zeros, control, token, deadline, epoch." Assumes nothing.
-use Rattle.records.specs.Words.{ℕ, _%_, _^_, _<_, Bool, true, false, cond, not, [], _∷_, getD, eqb, among, little, test, Codec}
+use Rattle.codec.specs.Words.{ℕ, _%_, _^_, _<_, Bool, true, false, cond, not, [], _∷_, getD, eqb, among, little, test, Codec}
 use Rattle.records.specs.declared.entry.FenceEntryState.{FenceEntryState}
 use Rattle.records.specs.declared.entry.FenceEntryState.the-variants.{InitialClosed, Active, TerminalClosed, Reclaiming}
 use Rattle.records.specs.declared.entry.FenceEntry.{FenceEntry}

@@ -1,5 +1,5 @@
 -- Document 01, 'Record layouts': "Key, 16: cookie, token, neither 0. No parity is asked." Assumes nothing.
-use Rattle.records.specs.Words.{_^_, _<_, not, [], _∷_, getD, eqb, little, test, Codec}
+use Rattle.codec.specs.Words.{_^_, _<_, not, [], _∷_, getD, eqb, little, test, Codec}
 use Rattle.records.specs.declared.key.FenceCookieKey.{FenceCookieKey}
 
 abbrev pub keyCodec : Codec FenceCookieKey

@@ -1,8 +1,5 @@
--- The definitions that the contracts of `records` cite: a codec for each record. Assumes nothing.
-pub mod Words
-pub mod Mutation
+-- The definitions that the contracts of `records` cite: a codec for each of its three records. Assumes nothing.
 pub mod Key
-pub mod Current
 pub mod Entry
 pub mod CookieValue
 pub mod Promises

@@ -1,19 +1,11 @@
--- What is promised of the five records of this crate: the laws of `codec`, of each by its own name. Assumes nothing.
+-- What is promised of the three records of this crate: the laws of `codec`, of each by its own name. Assumes nothing.
 use Rattle.codec.specs.Promises.{Laws, InOrder}
 use Rattle.records.specs.Key.{keyCodec, KeyFormed}
-use Rattle.records.specs.Mutation.{mutationCodec, MutationFormed}
-use Rattle.records.specs.Current.{currentCodec, CurrentFormed}
 use Rattle.records.specs.Entry.{entryCodec, EntryFormed}
 use Rattle.records.specs.CookieValue.{cookieValueCodec, CookieValueFormed}
 
 abbrev pub KeyLaws : Type 0
 KeyLaws = Laws keyCodec KeyFormed
-
-abbrev pub MutationLaws : Type 0
-MutationLaws = Laws mutationCodec MutationFormed
-
-abbrev pub CurrentLaws : Type 0
-CurrentLaws = Laws currentCodec CurrentFormed
 
 abbrev pub EntryLaws : Type 0
 EntryLaws = Laws entryCodec EntryFormed
@@ -23,4 +15,4 @@ CookieValueLaws = Laws cookieValueCodec CookieValueFormed
 
 -- the tests of each are in the order of the offsets
 abbrev pub TestsInOrder : Type 0
-TestsInOrder = InOrder keyCodec × (InOrder mutationCodec × (InOrder currentCodec × (InOrder entryCodec × InOrder cookieValueCodec)))
+TestsInOrder = InOrder keyCodec × (InOrder entryCodec × InOrder cookieValueCodec)

@@ -6,7 +6,7 @@ use units::BootNs;
 use units::ControlEpoch;
 use units::DurableFenceToken;
 use units::SocketCookie;
-ghost use Rattle.records.specs.Words.{_≡_, [], _∷_, put, asking, ok, bytes, Built, Decoded, Encoded, sound};
+ghost use Rattle.codec.specs.Words.{_≡_, [], _∷_, put, asking, ok, bytes, Built, Decoded, Encoded, sound};
 ghost use Rattle.records.specs.CookieValue.{cookieValue, cookieValueCodec, keyOf, entryOf, agreeing, pairFields};
 
 // State, cookie, token, deadline and epoch of a registered socket.

@@ -2,7 +2,7 @@
 use units::BootNs;
 use units::ControlEpoch;
 use units::DurableFenceToken;
-ghost use Rattle.records.specs.Words.{_≡_, _&&_, [], _∷_, put, ok, bytes, Built, Decoded, Encoded, sound};
+ghost use Rattle.codec.specs.Words.{_≡_, _&&_, [], _∷_, put, ok, bytes, Built, Decoded, Encoded, sound};
 ghost use Rattle.records.specs.Entry.{controlOf, stateFrom, stateListed, oddToken, deadlineFits, epochFits, entry, entryCodec, closed, terminal, reclaiming};
 ghost use Rattle.records.specs.declared.entry.FenceEntryState.the-variants.{InitialClosed, Active, TerminalClosed, Reclaiming};
 

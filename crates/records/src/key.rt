@@ -1,7 +1,7 @@
 // The key of a cookie value, 16 bytes: one registered socket's lifecycle.
 use units::DurableFenceToken;
 use units::SocketCookie;
-ghost use Rattle.records.specs.Words.{_≡_, [], _∷_, put, bytes, Built, Decoded, Encoded, sound};
+ghost use Rattle.codec.specs.Words.{_≡_, [], _∷_, put, bytes, Built, Decoded, Encoded, sound};
 ghost use Rattle.records.specs.Key.{keyCodec};
 
 // The cookie and the token of a registered socket.

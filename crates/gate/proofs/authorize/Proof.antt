@@ -3,7 +3,7 @@
 use Rattle.octets.specs.Words.{_≡_, false, not, length, eqb}
 use Rattle.octets.proofs.Tools.{refl, sym, ap, _∙_, free, eq-eqb, ne-eqb}
 use denote.Ref.{now}
-use Rattle.records.specs.Current.{currentCodec}
+use Rattle.authority.specs.Current.{currentCodec}
 use Rattle.gate.specs.Gate.{Call, inForce, viewOf, rules}
 use Rattle.gate.specs.Inner.Steps.{lookup, soughtRecord}
 use Rattle.table.proofs.TableLaws.{held}

@@ -1,7 +1,7 @@
 -- `refused`: the all-zero record, by its parts. Assumes nothing.
 use Rattle.octets.proofs.Tools.{refl, free}
-use Rattle.records.specs.Current.{currentListed, tokenFits, cookieFits}
-use Rattle.records.specs.Mutation.{claimFits}
+use Rattle.authority.specs.Current.{currentListed, tokenFits, cookieFits}
+use Rattle.authority.specs.Mutation.{claimFits}
 use Rattle.inspection.specs.Inspection.{inspection}
 use Rattle.inspection.specs.declared.inspected.InspectedEntry.the-variants.{Absent}
 use Rattle.inspection.proofs.refused as the

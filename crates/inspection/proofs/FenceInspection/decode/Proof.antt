@@ -9,8 +9,8 @@ use Rattle.codec.specs.Layout.{fieldsAt}
 use Rattle.codec.specs.Codec.{passes, ok, Built, Decoded}
 use Rattle.codec.proofs.TestLaws.{and-left, and-right}
 use Rattle.codec.proofs.CodecLaws.{built-done, built-refused, done-ok, done-value, refused-ok, decode-length, decode-read}
-use Rattle.records.specs.Current.{currentCodec}
-use Rattle.records.specs.Mutation.{mutationCodec}
+use Rattle.authority.specs.Current.{currentCodec}
+use Rattle.authority.specs.Mutation.{mutationCodec}
 use Rattle.records.specs.CookieValue.{cookieValueCodec}
 use Rattle.inspection.specs.declared.FenceInspection.{FenceInspection}
 use Rattle.inspection.specs.Inspected.{flagListed, partOf}

@@ -11,8 +11,8 @@ use Rattle.codec.specs.Codec.{bytes}
 use Rattle.codec.specs.Head.{headLayout, headFields}
 use Rattle.codec.proofs.LayoutLaws.{length-laid}
 use Rattle.codec.proofs.CodecLaws.{room-done, encode-refused, encode-put}
-use Rattle.records.specs.Current.{currentCodec}
-use Rattle.records.specs.Mutation.{mutationCodec}
+use Rattle.authority.specs.Current.{currentCodec}
+use Rattle.authority.specs.Mutation.{mutationCodec}
 use Rattle.records.specs.CookieValue.{cookieValueCodec}
 use Rattle.inspection.specs.declared.FenceInspection.{FenceInspection}
 use Rattle.inspection.specs.Inspected.{presentFlag, partFields}
