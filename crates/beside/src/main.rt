@@ -5,6 +5,8 @@
 // (u16) and the body; numbers are little-endian. The answers follow each other with nothing in between. A stream that is malformed
 // gets one line on descriptor 2, after the answers to the queries before the fault, and an end; so do input that cannot be read and answers
 // that cannot be written.
+#![tactic(auto)]
+
 mod codecs;
 mod constructors;
 mod fields;

@@ -1,5 +1,7 @@
 // The configuration, 40 bytes: the protected endpoint, the root cgroup of the attachment, and the cookie map's capacity. The numbers
 // given back are those of `records`.
+#![tactic(auto)]
+
 ghost use Rattle.octets.specs.Words.{◌≡◌, ◌&&◌};
 ghost use Rattle.octets.specs.Octets.{octets_at, put};
 ghost use Rattle.codec.specs.Codec.{Made, Decoded, Encoded, sound, bytes};

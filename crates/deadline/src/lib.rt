@@ -1,4 +1,6 @@
 // The refresh-deadline check: whether a requested deadline may take the place of the prior one.
+#![tactic(auto)]
+
 ghost use Rattle.octets.specs.Words.{◌≡◌};
 ghost use Rattle.deadline.specs.Deadline.{decision_number, refresh_decision};
 

@@ -1,6 +1,8 @@
 // The classifier, the refresh-deadline check and the seven records for programs in other languages: `rt staticlib export` writes
 // target/staticlib/libexport.a, for x86-64. A `&[u8]` passes as a pointer and a length, a reference to an array as a pointer.
 // include/threadwicket.h has the declarations for C.
+#![tactic(auto)]
+
 pub mod config_view;
 pub mod cookie_value;
 pub mod current;

@@ -1,5 +1,7 @@
 // The joined gate for programs in other languages: `rt staticlib export_gate` writes target/staticlib/libexport_gate.a, for x86-64. It is
 // an archive of its own, so that the classifier is compiled into its one caller in each of the two.
+#![tactic(auto)]
+
 ghost use Rattle.gate.specs.Gate.{given, gate_of};
 ghost use Rattle.export_gate.specs.Export.{Judged};
 

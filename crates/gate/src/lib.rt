@@ -1,4 +1,6 @@
 // The joined gate: one call decides what becomes of a packet, from bytes as a hook finds them.
+#![tactic(auto)]
+
 ghost use Rattle.octets.specs.Words.{◌≡◌, not, [], ◌∷◌, eqb};
 ghost use Rattle.packet.specs.Answers as reading;
 ghost use Rattle.records.specs.Entry.{closed};

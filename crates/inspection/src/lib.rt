@@ -1,5 +1,7 @@
 // An inspection, 128 bytes: the current record, the mutation authority and perhaps a cookie value, as they stood at one moment. Each
 // part is read and written by its own record's functions; the numbers given back are those of `records`.
+#![tactic(auto)]
+
 pub mod inspected;
 
 ghost use Rattle.octets.specs.Words.{◌≡◌};

@@ -1,5 +1,7 @@
 // Prints the listing of the bundle on standard input: a line for each packet, and a last line. Of input over 65,536 bytes it prints
 // `long` alone. Input that cannot be read, and a listing that cannot be written, get one line on descriptor 2.
+#![tactic(auto)]
+
 ghost use Rattle.listing.specs.Listing.{whole};
 ghost use Rattle.program.specs.Status.{Fits};
 

@@ -39,3 +39,5 @@
 //   (`seven-rounds` in `laws/proofs/RoundTrips.antt`, a field for each record).
 // - Examples. `examples-hold` in `laws/proofs/Examples.antt`, stated in `laws/specs/Examples.antt`: the list that document 01 asks to be
 //   proved.
+#![tactic(auto)]
+

@@ -1,4 +1,6 @@
 // The listing of a bundle: one pass over its frames, a line for each packet.
+#![tactic(auto)]
+
 mod lines;
 
 ghost use Rattle.octets.specs.Words.{◌≤◌, ◌≡◌, length, leb};

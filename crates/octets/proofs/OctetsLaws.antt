@@ -329,7 +329,7 @@ octets-whole s n e = rw (drop_of_length-le s {i = 0 + n} (omega arith), append-n
 pub put-part : (d : List ℕ) (k : ℕ) (bs : List ℕ) → k + length bs ≤ length d → take k d ++ put (drop k d) 0 bs ≡ put d k bs
 put-part d k bs h =
     let room : 0 + length bs ≤ length (drop k d) = rw length-drop (omega arith) in
-    rw (put_in (drop k d) 0 bs room, put_in d k bs h, zero-add, drop-drop, append_assoc)
+    rw (put_in (drop k d) 0 bs room, put_in d k bs h, zero-add, drop-drop) (simp append_assoc)
 
 -- n octets spell a number below 256 ^ n, greatest octet first too
 pub be-below : (s : List ℕ) → Bytes s → be s < 256 ^ length s

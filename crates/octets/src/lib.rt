@@ -2,6 +2,8 @@
 //
 // Every function is total: an octet past the end of a slice reads as 0, and one written there is dropped. So a caller has no
 // fact to show. A caller that has tested the length first pays for no second test: the compiler folds them.
+#![tactic(auto)]
+
 ghost use Rattle.octets.specs.Words.{◌+◌, ◌<◌, ◌≤◌, ◌≡◌, length, leb};
 ghost use Rattle.octets.specs.Octets.{octets_at, le, be, put, le_bytes, be_bytes, all_zero, same_octets};
 

@@ -2,6 +2,8 @@
 //
 // A packet begins at its network header. Each test stands in the order of document 01, and each field is read where that order
 // comes to it, after the test of the packet's length: the readers' own tests then cost nothing.
+#![tactic(auto)]
+
 ghost use Rattle.octets.specs.Words.{◌+◌, ◌*◌, ◌≤◌, ◌≡◌, cond, ◌||◌, eqb, ltb};
 ghost use Rattle.octets.specs.Octets.{octets_at, same_octets};
 ghost use Rattle.packet.specs.Rfc791.{source as source4};

@@ -1,6 +1,8 @@
 // What the programs share: what their arguments ask, reading to a limit, writing all or saying that it could not be done, and the status
 // that the script `threadwicket` hands on. No contract can say what is read or written, so the functions that read or write promise where
 // bytes lie and how many there are, and which status an outcome is.
+#![tactic(auto)]
+
 ghost use Rattle.octets.specs.Words.{◌≡◌, ◌≤◌, length};
 ghost use Rattle.program.specs.Reading.{Told};
 ghost use Rattle.program.specs.Status.{digit_of, failed, of_whole};

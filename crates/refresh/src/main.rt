@@ -2,6 +2,8 @@
 // nanoseconds of the boot clock, in decimal, with blanks between them. A line is answered when it has come. A line that is not three numbers
 // below 2^64 gets one line on descriptor 2, after the answers to the lines before it, and an end; so do input that cannot be read and an
 // answer that cannot be written.
+#![tactic(auto)]
+
 use deadline::RefreshDeadlineDecision;
 use libc::STDIN_FILENO;
 use program::{Outcome, Written};

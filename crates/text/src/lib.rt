@@ -1,5 +1,7 @@
 // Text written at a place of a lent buffer. Every function is total: what would lie past the end is dropped, and the place after it is
 // counted all the same, so the same functions write a text and measure it. Each answers the place after what it wrote.
+#![tactic(auto)]
+
 ghost use Rattle.octets.specs.Words.{◌≤◌, ◌≡◌, [], ◌∷◌, length, drop};
 ghost use Rattle.octets.specs.Octets.{put};
 ghost use Rattle.text.specs.Text.{decimal, numbered, after, Wrote};

@@ -1,5 +1,6 @@
 // The five meanings of a 64-bit number, kept apart as the source's field names keep them apart. A call that hands over one for
 // another is turned down by the compiler.
+#![tactic(auto)]
 
 // A moment, or a deadline, in nanoseconds of the suspend-aware boot clock.
 #[derive(Drop)]

@@ -1,0 +1,10 @@
+-- `get_u32_be`: the law of two halves at 2 and 2 octets; past the end both sides are 0. Assumes nothing.
+use Rattle.octets.proofs.Tools.{sym, arith}
+use Rattle.octets.proofs.OctetsLaws.{be-past, be-parts}
+use Rattle.octets.proofs.get_u32_be.Goals as goal
+
+pub returns-then-s-at : goal.returns-then-s-at
+returns-then-s-at c = sym (be-past _ _ 4 c.if-s-at.true)
+
+pub returns : goal.returns
+returns c = let a = c.args in omega (arith, be-parts a.s.now a.at 2 2)
