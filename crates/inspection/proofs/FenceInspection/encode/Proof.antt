@@ -116,7 +116,7 @@ returns c =
     (put5 a5
     ∙ ap (λ d. put d 88 (le_bytes 40 0)) (put4 a4
     ∙ ap (λ d. put d 48 (laid cookie_value_codec.layout (part_fields v.entry))) (put3 a3
-    ∙ ap (λ d. put d 32 (bytes mutation_codec v.mutation)) (put2 a2 ∙ ap (λ d. put d 8 (bytes current_codec v.current-1)) (put1 a1))))
+    ∙ ap (λ d. put d 32 (bytes mutation_codec v.mutation)) (put2 a2 ∙ ap (λ d. put d 8 (bytes current_codec v.current)) (put1 a1))))
     ∙ parts-put v (output a1))
 
 returns-2 : the.Tie.Need-returns-else-number-eq0
