@@ -3,14 +3,14 @@ ghost use Rattle.codec.specs.Words.{◌≡◌, [], ◌∷◌, put, bytes, Built,
 ghost use Rattle.authority.specs.Mutation.{mutation_codec};
 
 // Generation and claim; a claim of 0 is none.
-#[derive(Drop)]
+#[derive(Clone, Copy)]
 pub struct FenceMutationAuthority {
     pub generation: u64,
     pub in_flight_claim: u64,
 }
 
 // What a constructor or the decoder answers: 0 and the record, or a refusal's number and the all-zero record.
-#[derive(Drop)]
+#[derive(Clone, Copy)]
 pub struct MutationAnswer {
     pub number: u32,
     pub value: FenceMutationAuthority,

@@ -15,7 +15,7 @@ const HEAD: usize = 6;
 pub(crate) const CALL: usize = 43;
 
 // What stands at an offset.
-#[derive(Drop)]
+#[derive(Clone, Copy)]
 enum Frame {
     Config,
     Current,
@@ -31,7 +31,7 @@ enum Frame {
 
 // Where reading stands: the offset, how many bytes of the table are gathered, and the places in the input of the bodies in force. A body
 // that has not come yet has the end of the input for its place.
-#[derive(Drop)]
+#[derive(Clone, Copy)]
 pub struct Cursor {
     pub at: usize,
     pub gathered: usize,
@@ -41,7 +41,7 @@ pub struct Cursor {
 }
 
 // What comes next from a cursor on.
-#[derive(Drop)]
+#[derive(Clone, Copy)]
 pub enum Next {
     // A packet, with the cursor after it: so many bytes, the last before that offset.
     Packet(Cursor, usize),

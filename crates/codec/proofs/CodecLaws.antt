@@ -2,8 +2,8 @@
 -- fields: that `fields` and `of` undo each other on what its rule accepts. The rest is the laws of layouts. Then the answers of
 -- constructors, decoders and encoders, which the proofs of functions cite; what they cite besides is passed on from here.
 -- Assumes nothing.
-pub use Rattle.octets.proofs.Tools.{refl, free, needs}
-use Rattle.octets.specs.Words.{ℕ, suc, ◌+◌, ◌≤◌, ◌≡◌, Bool, true, false, cond, List, ◌∷◌, ◌++◌, length, take, drop, eqb, leb}
+pub use Rattle.octets.proofs.Tools.{refl, free, rules}
+use Rattle.octets.specs.Words.{ℕ, suc, ◌≤◌, ◌≡◌, Bool, true, false, cond, List, ◌∷◌, ◌++◌, length, take, drop, eqb, leb}
 use Rattle.octets.proofs.Tools.{sym, ap, ◌∙◌, true≢false, arith, eq-eqb, ne_eqb, eqb-true, eqb-false, leb-true, le-leb}
 use lib.Seq.{take_at}
 use native.Mathlib.Nat.{zero-add}

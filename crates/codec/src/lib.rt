@@ -8,7 +8,7 @@ ghost use Rattle.codec.specs.Codec.{room_answer, unsound_number};
 ghost use Rattle.codec.specs.Head.{head_layout, head_fields, head_numbers};
 
 // The head of a record: mark, version, an octet of the record's own, and the zero after it.
-#[derive(Drop)]
+#[derive(Clone, Copy)]
 pub struct Head {
     pub mark: u32,
     pub version: u16,

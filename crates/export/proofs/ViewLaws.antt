@@ -1,7 +1,7 @@
 -- The laws of every view, proved once: what its decoder answers, and its encoder, by what the functions inside did. A view owes `Viewable`:
 -- its codec's laws, a slot for each field, room in the image for each own number, and that its fixed fields are those of every record.
 -- Assumes nothing.
-pub use Rattle.octets.proofs.Tools.{refl, free, needs}
+pub use Rattle.octets.proofs.Tools.{refl, free, rules}
 use Rattle.octets.specs.Words.{ℕ, suc, ◌-◌, ◌^◌, ◌<◌, ◌≤◌, ◌≡◌, Bool, true, false, cond, ◌&&◌, List, [], ◌∷◌, ◌++◌, length, drop, eqb, ltb, leb}
 use Rattle.octets.proofs.Tools.{sym, ap, ◌∙◌, arith, eq-eqb, ne_eqb, eqb-true, lt-ltb, le-ltb, ltb-true, lt-leb}
 use Rattle.octets.proofs.Choices.{and_left, and_right}

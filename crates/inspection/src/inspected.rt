@@ -9,14 +9,14 @@ ghost use Rattle.inspection.specs.Inner.Steps.{part_taken, part_read};
 use records::cookie_value::FenceCookieValue;
 
 // The entry that was asked for, where there was one.
-#[derive(Drop)]
+#[derive(Clone, Copy)]
 pub enum InspectedEntry {
     Absent,
     Present(FenceCookieValue),
 }
 
 // What the bytes in an inner entry's place give: whether they are taken, and the entry.
-#[derive(Drop)]
+#[derive(Clone, Copy)]
 pub(crate) struct PartAnswer {
     pub(crate) taken: bool,
     pub(crate) value: InspectedEntry,

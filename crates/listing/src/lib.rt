@@ -17,7 +17,7 @@ pub const MAX_BUNDLE: usize = 65_536;
 pub const MAX_LISTING: usize = 273_060;
 
 // What the listing of a bundle answers: 0 and how long the listing is, or 4 where the output is shorter.
-#[derive(Drop)]
+#[derive(Clone, Copy)]
 pub struct Listed {
     pub number: u32,
     pub length: usize,
@@ -26,7 +26,7 @@ pub struct Listed {
 }
 
 // Lines that were written: the place after them, and whether they are of a whole bundle.
-#[derive(Drop)]
+#[derive(Clone, Copy)]
 struct Sheet {
     to: usize,
     whole: bool,

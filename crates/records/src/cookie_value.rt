@@ -7,7 +7,7 @@ use crate::key::FenceCookieKey;
 use units::{BootNs, ControlEpoch, DurableFenceToken, SocketCookie};
 
 // State, cookie, token, deadline and epoch of a registered socket.
-#[derive(Drop)]
+#[derive(Clone, Copy)]
 pub struct FenceCookieValue {
     pub state: FenceEntryState,
     pub socket_cookie: SocketCookie,
@@ -17,7 +17,7 @@ pub struct FenceCookieValue {
 }
 
 // What a constructor or the decoder answers: 0 and the record, or a refusal's number and the all-zero record.
-#[derive(Drop)]
+#[derive(Clone, Copy)]
 pub struct CookieValueAnswer {
     pub number: u32,
     pub value: FenceCookieValue,

@@ -6,7 +6,7 @@ ghost use Rattle.records.specs.declared.entry.FenceEntryState.TheVariants.{Initi
 use units::{BootNs, ControlEpoch, DurableFenceToken};
 
 // The state of an entry.
-#[derive(Drop)]
+#[derive(Clone, Copy)]
 pub enum FenceEntryState {
     // Registered, and not yet opened.
     InitialClosed,
@@ -19,7 +19,7 @@ pub enum FenceEntryState {
 }
 
 // State, token, deadline and epoch of a registered socket.
-#[derive(Drop)]
+#[derive(Clone, Copy)]
 pub struct FenceEntry {
     pub state: FenceEntryState,
     pub durable_fence_token: DurableFenceToken,
@@ -28,7 +28,7 @@ pub struct FenceEntry {
 }
 
 // What a constructor or the decoder answers: 0 and the record, or a refusal's number and the all-zero record.
-#[derive(Drop)]
+#[derive(Clone, Copy)]
 pub struct EntryAnswer {
     pub number: u32,
     pub value: FenceEntry,

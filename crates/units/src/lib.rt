@@ -3,21 +3,21 @@
 #![tactic(auto)]
 
 // A moment, or a deadline, in nanoseconds of the suspend-aware boot clock.
-#[derive(Drop)]
+#[derive(Clone, Copy)]
 pub struct BootNs(pub u64);
 
 // The kernel's number of a socket; 0 names none.
-#[derive(Drop)]
+#[derive(Clone, Copy)]
 pub struct SocketCookie(pub u64);
 
 // The durable fence token: odd while a socket's lifecycle is open, even once it is retired.
-#[derive(Drop)]
+#[derive(Clone, Copy)]
 pub struct DurableFenceToken(pub u64);
 
 // The control epoch of a socket's entry: 1 at registration, and never 0.
-#[derive(Drop)]
+#[derive(Clone, Copy)]
 pub struct ControlEpoch(pub u64);
 
 // The inode number of the root cgroup that the hook is attached to.
-#[derive(Drop)]
+#[derive(Clone, Copy)]
 pub struct RootCgroupId(pub u64);

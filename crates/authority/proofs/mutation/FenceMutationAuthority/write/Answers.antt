@@ -1,0 +1,9 @@
+-- `write`: one store for each field, in the order of the layout. Assumes nothing.
+use Rattle.codec.proofs.LayoutLaws.{puts-laid}
+use Rattle.authority.specs.Mutation.{mutation_codec}
+use Rattle.authority.proofs.mutation.FenceMutationAuthority.write.Goals as goal
+
+pub returns : goal.returns
+returns c =
+    let a = c.args in
+    rw (c.put_u64_le-2.ensures, c.put_u64_le.ensures) (puts-laid mutation_codec.layout (mutation_codec.fields a.self) a.out.now 0)
