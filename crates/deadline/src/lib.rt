@@ -37,6 +37,7 @@ impl RefreshDeadlineDecision {
 }
 
 // The clock is observed after the entry has been closed for the change, so an equal prior deadline has passed.
+#[tactic(auto, unfolding(crate::specs::Deadline::refresh_decision))]
 pub fn evaluate_refresh_deadlines(
     observed_at: BootNs,
     prior_deadline: BootNs,
