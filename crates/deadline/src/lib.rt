@@ -10,7 +10,7 @@ use units::BootNs;
 pub const EGRESS_FENCE_MAX_GATE_LIFETIME_NS: u64 = 300_000_000_000;
 
 // What becomes of a requested deadline.
-#[derive(Drop)]
+#[derive(Clone, Copy)]
 pub enum RefreshDeadlineDecision {
     // The prior deadline had passed when the clock was observed.
     PriorExpired,
@@ -37,6 +37,7 @@ impl RefreshDeadlineDecision {
 }
 
 // The clock is observed after the entry has been closed for the change, so an equal prior deadline has passed.
+#[tactic(auto, unfolding(crate::specs::Deadline::refresh_decision))]
 pub fn evaluate_refresh_deadlines(
     observed_at: BootNs,
     prior_deadline: BootNs,

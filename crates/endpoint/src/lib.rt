@@ -13,7 +13,7 @@ pub type Ipv6Address = [u8; 16];
 
 // The Rust's enum of two cases, each with an array, as one struct: `family` is 4 or 6, and an IPv4 address stands in the first four
 // bytes of `address`.
-#[derive(Drop)]
+#[derive(Clone, Copy)]
 pub struct ProtectedEndpoint {
     pub family: u8,
     pub address: [u8; 16],
@@ -21,7 +21,7 @@ pub struct ProtectedEndpoint {
 }
 
 // What a constructor answers: 0 and the endpoint, or 2 and the all-zero record.
-#[derive(Drop)]
+#[derive(Clone, Copy)]
 pub struct EndpointAnswer {
     pub number: u32,
     pub endpoint: ProtectedEndpoint,
@@ -111,6 +111,7 @@ impl ProtectedEndpoint {
     pub const IPV6: u8 = 6;
 
     // Whether the value is one that a constructor gives.
+    #[tactic(auto, unfolding(crate::specs::Endpoint::sound_endpoint))]
     pub fn is_sound(self) -> bool
         ensures { result ≡ sound_endpoint self }
     {
@@ -187,6 +188,7 @@ impl ProtectedEndpoint {
     }
 
     // Whether this endpoint is the IPv4 source given. The spare bytes are not looked at.
+    #[tactic(auto, unfolding(crate::specs::Endpoint::matches))]
     pub fn matches_ipv4(self, address: Ipv4Address, port: u16) -> bool
         ensures { result ≡ matches_ipv4 self address port }
     {

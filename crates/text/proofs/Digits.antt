@@ -18,6 +18,7 @@ from_on d i e = take_all (20 - i) (drop i d) (rw length-drop (omega arith))
 
 pub one-digit : (n p : ℕ) → 0 < p → n < 10 → decimal_in p n ≡ (48 + n) ∷ []
 unfolding decimal_in
+one-digit n zero h l = elim h [ ]
 one-digit n (suc p) h l = rw (lt-ltb n 10 l)
 
 more-digits : (n p : ℕ) → 10 ≤ n → decimal_in (p + 1) n ≡ decimal_in p (n / 10) ++ ((48 + n % 10) ∷ [])
@@ -67,6 +68,7 @@ module _ {n i m : ℕ} {d : List ℕ} (g : Digits n i m d) (h : 0 < i) where
 pub digits-full : {n : ℕ} (i : ℕ) {m : ℕ} {d : List ℕ} → Digits n i m d → i ≤ 0 → (i ≤ 20) × (drop i d ≡ decimal n)
 unfolding decimal_in
 digits-full zero g h = (omega arith, sym g.whole)
+digits-full (suc _) g h = elim h [ ]
 
 -- ---- how many they are
 

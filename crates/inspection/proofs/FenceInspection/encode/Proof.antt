@@ -3,7 +3,7 @@
 -- Assumes nothing.
 use Rattle.octets.specs.Words.{ℕ, ◌-◌, ◌≤◌, ◌≡◌, List, ◌++◌, length, take, drop}
 use Rattle.octets.specs.Octets.{put, le_bytes}
-use Rattle.octets.proofs.Tools.{refl, ap, ◌∙◌, needs, free, arith}
+use Rattle.octets.proofs.Tools.{refl, ap, ◌∙◌, rules, free, arith}
 use Rattle.octets.proofs.OctetsLaws.{length-put, length-le_bytes}
 use Rattle.codec.specs.Layout.{laid}
 use Rattle.codec.specs.Codec.{bytes}
@@ -22,25 +22,25 @@ use Rattle.inspection.proofs.FenceInspection.encode as the
 
 -- ---- the test that was passed, the record and the output
 
-abbrev passed : the.Tie.After-put-head → the.Tie.Then1
+abbrev passed : the.Tie.After-put_head → the.Tie.Then-number-eq0
 passed a = a.before.before.before.before.before
 
-abbrev given : the.Tie.After-put-head → FenceInspection
+abbrev given : the.Tie.After-put_head → FenceInspection
 given a = (passed a).before.before.before.before.args.self
 
-abbrev output : the.Tie.After-put-head → List ℕ
+abbrev output : the.Tie.After-put_head → List ℕ
 output a = (passed a).before.before.before.before.args.out.now
 
-abbrev at2 : the.Tie.After-write → the.Tie.After-put-head
+abbrev at2 : the.Tie.After-write → the.Tie.After-put_head
 at2 a = a.before.before.before.before
 
-abbrev at3 : the.Tie.After-write2 → the.Tie.After-write
+abbrev at3 : the.Tie.After-write-then-number-eq0 → the.Tie.After-write
 at3 a = a.before.before.before.before
 
-abbrev at4 : the.Tie.After-write3 → the.Tie.After-write2
+abbrev at4 : the.Tie.After-write-then-number-eq0-2 → the.Tie.After-write-then-number-eq0
 at4 a = a.before.before.before.before
 
-abbrev at5 : the.Tie.After-put-zeros → the.Tie.After-write3
+abbrev at5 : the.Tie.After-put_zeros → the.Tie.After-write-then-number-eq0-2
 at5 a = a.before.before.before.before
 
 -- ---- what the output holds
@@ -48,23 +48,23 @@ at5 a = a.before.before.before.before
 abbrev within : List ℕ → ℕ → List ℕ → List ℕ
 within d k x = take k d ++ (x ++ drop (length d - k) (drop k d))
 
-abbrev held1 : the.Tie.After-put-head → List ℕ
-held1 a = a.put-head.last.0
+abbrev held1 : the.Tie.After-put_head → List ℕ
+held1 a = a.put_head.new.out
 
 abbrev held2 : the.Tie.After-write → List ℕ
-held2 a = within (held1 (at2 a)) 8 a.write.last.1.0
+held2 a = within (held1 (at2 a)) 8 a.write.new.out
 
-abbrev held3 : the.Tie.After-write2 → List ℕ
-held3 a = within (held2 (at3 a)) 32 a.write2.last.1.0
+abbrev held3 : the.Tie.After-write-then-number-eq0 → List ℕ
+held3 a = within (held2 (at3 a)) 32 a.write-then-number-eq0.new.out
 
-abbrev held4 : the.Tie.After-write3 → List ℕ
-held4 a = within (held3 (at4 a)) 48 a.write3.last.1.0
+abbrev held4 : the.Tie.After-write-then-number-eq0-2 → List ℕ
+held4 a = within (held3 (at4 a)) 48 a.write-then-number-eq0-2.new.out
 
-put1 : (a : the.Tie.After-put-head) → held1 a ≡ put (output a) 0 (laid head_layout (head_fields inspection_mark 5 (present_flag (given a).entry)))
-put1 a = a.put-head.ensures ∙ ap (λ f. put (output a) 0 (laid head_layout (head_fields inspection_mark 5 f))) a.before.flag.ensures
+put1 : (a : the.Tie.After-put_head) → held1 a ≡ put (output a) 0 (laid head_layout (head_fields inspection_mark 5 (present_flag (given a).entry)))
+put1 a = a.put_head.ensures ∙ ap (λ f. put (output a) 0 (laid head_layout (head_fields inspection_mark 5 f))) a.before.flag.ensures
 
-long1 : (a : the.Tie.After-put-head) → 128 ≤ length (held1 a)
-long1 a = rw (put1 a, length-put) (room-done _ _ _ (rw (passed a).before.encode-number.ensures at (passed a).if1.taken)).1
+long1 : (a : the.Tie.After-put_head) → 128 ≤ length (held1 a)
+long1 a = rw (put1 a, length-put) (room-done _ _ _ (rw (passed a).before.encode_number-number.ensures at (passed a).if-number-eq0.true)).1
 
 put2 : (a : the.Tie.After-write) → held2 a ≡ put (held1 (at2 a)) 8 (bytes current_codec (given (at2 a)).current)
 put2 a =
@@ -74,55 +74,55 @@ put2 a =
 long2 : (a : the.Tie.After-write) → 128 ≤ length (held2 a)
 long2 a = rw (put2 a, length-put) (long1 (at2 a))
 
-put3 : (a : the.Tie.After-write2) → held3 a ≡ put (held2 (at3 a)) 32 (bytes mutation_codec (given (at2 (at3 a))).mutation)
+put3 : (a : the.Tie.After-write-then-number-eq0) → held3 a ≡ put (held2 (at3 a)) 32 (bytes mutation_codec (given (at2 (at3 a))).mutation)
 put3 a =
     let l = long2 (at3 a) in let n = length-laid mutation_codec.layout (mutation_codec.fields (given (at2 (at3 a))).mutation) refl in
-    into-part (held2 (at3 a)) 32 _ (omega arith) a.write2.ensures
+    into-part (held2 (at3 a)) 32 _ (omega arith) a.write-then-number-eq0.ensures
 
-long3 : (a : the.Tie.After-write2) → 128 ≤ length (held3 a)
+long3 : (a : the.Tie.After-write-then-number-eq0) → 128 ≤ length (held3 a)
 long3 a = rw (put3 a, length-put) (long2 (at3 a))
 
-put4 : (a : the.Tie.After-write3) → held4 a ≡ put (held3 (at4 a)) 48 (laid cookie_value_codec.layout (part_fields (given (at2 (at3 (at4 a)))).entry))
+put4 : (a : the.Tie.After-write-then-number-eq0-2) → held4 a ≡ put (held3 (at4 a)) 48 (laid cookie_value_codec.layout (part_fields (given (at2 (at3 (at4 a)))).entry))
 put4 a =
     let e = (given (at2 (at3 (at4 a)))).entry in
     let l = long3 (at4 a) in let n = length-laid cookie_value_codec.layout (part_fields e) (length_part e) in
-    into-part (held3 (at4 a)) 48 _ (omega arith) a.write3.ensures
+    into-part (held3 (at4 a)) 48 _ (omega arith) a.write-then-number-eq0-2.ensures
 
-long4 : (a : the.Tie.After-write3) → 128 ≤ length (held4 a)
+long4 : (a : the.Tie.After-write-then-number-eq0-2) → 128 ≤ length (held4 a)
 long4 a = rw (put4 a, length-put) (long3 (at4 a))
 
-put5 : (a : the.Tie.After-put-zeros) → within (held4 (at5 a)) 88 a.put-zeros.last.0 ≡ put (held4 (at5 a)) 88 (le_bytes 40 0)
-put5 a = let l = long4 (at5 a) in into-part (held4 (at5 a)) 88 _ (omega (arith, length-le_bytes 40 0)) a.put-zeros.ensures
+put5 : (a : the.Tie.After-put_zeros) → within (held4 (at5 a)) 88 a.put_zeros.new.out ≡ put (held4 (at5 a)) 88 (le_bytes 40 0)
+put5 a = let l = long4 (at5 a) in into-part (held4 (at5 a)) 88 _ (omega (arith, length-le_bytes 40 0)) a.put_zeros.ensures
 
 -- ---- the needs
 
-room2 : the.Tie.Need-sub-write
+room2 : the.Tie.Need-slice_bounds-write-count
 room2 c = let l = long1 c.before.before in omega arith
 
-room3 : the.Tie.Need-sub-write-2
+room3 : the.Tie.Need-slice_bounds-write-count-then-number-eq0
 room3 c = let l = long2 c.before.before in omega arith
 
-room4 : the.Tie.Need-sub-write-3
+room4 : the.Tie.Need-slice_bounds-write-count-then-number-eq0-2
 room4 c = let l = long3 c.before.before in omega arith
 
-room5 : the.Tie.Need-sub-put-zeros
+room5 : the.Tie.Need-slice_bounds-put_zeros-count
 room5 c = let l = long4 c.before.before in omega arith
 
-returns : the.Tie.Need-returns
+returns : the.Tie.Need-returns-then-number-eq0
 returns c =
     let a5 = c.before.before in let a4 = at5 a5 in let a3 = at4 a4 in let a2 = at3 a3 in let a1 = at2 a2 in
     let v = given a1 in let tested = passed a1 in let n = tested.before in
-    encode-put n.before.is-sound.ensures n.encode-number.ensures tested.if1.taken (inspection-lawful.counted v)
+    encode-put n.before.is_sound.ensures n.encode_number-number.ensures tested.if-number-eq0.true (inspection-lawful.counted v)
     (put5 a5
     ∙ ap (λ d. put d 88 (le_bytes 40 0)) (put4 a4
     ∙ ap (λ d. put d 48 (laid cookie_value_codec.layout (part_fields v.entry))) (put3 a3
     ∙ ap (λ d. put d 32 (bytes mutation_codec v.mutation)) (put2 a2 ∙ ap (λ d. put d 8 (bytes current_codec v.current)) (put1 a1))))
     ∙ parts-put v (output a1))
 
-returns-2 : the.Tie.Need-returns-2
-returns-2 c = encode-refused c.before.before.is-sound.ensures c.before.encode-number.ensures c.if1.left
+returns-2 : the.Tie.Need-returns-else-number-eq0
+returns-2 c = encode-refused c.before.before.is_sound.ensures c.before.encode_number-number.ensures c.if-number-eq0.false
 
-pub encode-spec : {M : Type 1} → the.Statement.statement M
-encode-spec =
+pub encode_spec : {M : Type 1} → the.Statement.statement M
+encode_spec =
     the.Tie.close
-    (the.Tie.spec free free free free room2 room2 (λ c. search needs) free room3 room3 (λ c. search needs) free room4 room4 (λ c. search needs) free room5 room5 (λ c. search needs) free (λ c. search needs) returns returns-2)
+    (the.Tie.spec free free free free room2 room2 (λ c. search rules) free room3 room3 (λ c. search rules) free room4 room4 (λ c. search rules) free room5 room5 (λ c. search rules) free (λ c. search rules) returns returns-2)

@@ -1,0 +1,6 @@
+-- `prefix_is_zero`: ten bytes as eight and two. Assumes nothing.
+use Rattle.endpoint.proofs.ZeroLaws.{zero-two}
+use Rattle.endpoint.proofs.prefix_is_zero.Goals as goal
+
+pub returns : goal.returns
+returns c = zero-two _ 0 8 2 c.get_u64_le.ensures c.get_u16_le.ensures
