@@ -43,6 +43,7 @@ pub fn threadwicket_cookie_value_decode(bytes: &[u8], fields: &mut [u8]) -> u32
 }
 
 // From fields to bytes.
+#[tactic(auto, using(crate::proofs::RoomLaws::no_room_number, crate::proofs::RoomLaws::no_room_output))]
 pub fn threadwicket_cookie_value_encode(fields: &[u8], bytes: &mut [u8]) -> u32
     ensures { ViewEncoded cookie_value_view fields.now bytes.old result bytes.new }
 {

@@ -1,11 +1,11 @@
 -- `threadwicket_cookie_value_encode`: the answers of every encoder from an image; the numbers that are read are asked and stored. Assumes nothing.
 use Rattle.octets.specs.Words.{ℕ, ◌-◌, ◌^◌, ◌≤◌, ◌≡◌, Bool, List, [], ◌∷◌}
 use Rattle.octets.specs.Octets.{Bytes, octets_at, le}
-use Rattle.octets.proofs.Tools.{sym, ◌∙◌}
+use Rattle.octets.proofs.Tools.{sym, ◌∙◌, arith}
 use Rattle.codec.specs.Codec.{ok}
 use Rattle.export.specs.View.{sound_image}
 use Rattle.export.specs.Views.{cookie_value_view}
-use Rattle.export.proofs.ViewLaws.{refl, whole, within, beyond, sound-told, refused-length, refused-wide, refused-unsound, refused-room, stored-whole}
+use Rattle.export.proofs.ViewLaws.{refl, whole, within, beyond, sound-told, refused-length, refused-wide, refused-unsound, stored-whole}
 use Rattle.export.proofs.cookie_value.threadwicket_cookie_value_encode.Goals as goal
 
 -- ---- whether an image is a sound record's, by the numbers that are read and the rule that is asked of them
@@ -26,9 +26,6 @@ returns-then-control-gt4294967295 c =
 pub returns-then-not-rule : goal.returns-then-not-rule
 returns-then-not-rule c = refused-unsound cookie_value_view c.args.fields.now c.if-fields-ne-LEN.false (asked c.args.fields.now (λ i. (c.type_inv.fields i).fits) c.get_u64_le-control.ensures c.get_u64_le.ensures c.get_u64_le-2.ensures c.get_u64_le-3.ensures c.get_u64_le-4.ensures c.if-control-gt4294967295.false c.rule.ensures ∙ c.if-not-rule.true)
 
-pub returns-then-bytes-lt-LEN : goal.returns-then-bytes-lt-LEN
-returns-then-bytes-lt-LEN c = refused-room cookie_value_view c.args.fields.now c.if-fields-ne-LEN.false (asked c.args.fields.now (λ i. (c.type_inv.fields i).fits) c.get_u64_le-control.ensures c.get_u64_le.ensures c.get_u64_le-2.ensures c.get_u64_le-3.ensures c.get_u64_le-4.ensures c.if-control-gt4294967295.false c.rule.ensures ∙ c.if-not-rule.false) c.if-bytes-lt-LEN.true
-
 pub returns : goal.returns
 returns c =
-    stored-whole cookie_value_view c.args.fields.now c.if-fields-ne-LEN.false (asked c.args.fields.now (λ i. (c.type_inv.fields i).fits) c.get_u64_le-control.ensures c.get_u64_le.ensures c.get_u64_le-2.ensures c.get_u64_le-3.ensures c.get_u64_le-4.ensures c.if-control-gt4294967295.false c.rule.ensures ∙ c.if-not-rule.false) refl c.if-bytes-lt-LEN.false (rw (sym c.get_u64_le-control.ensures, sym c.get_u64_le.ensures, sym c.get_u64_le-2.ensures, sym c.get_u64_le-3.ensures, sym c.get_u64_le-4.ensures) c.write.ensures)
+    stored-whole cookie_value_view c.args.fields.now c.if-fields-ne-LEN.false (asked c.args.fields.now (λ i. (c.type_inv.fields i).fits) c.get_u64_le-control.ensures c.get_u64_le.ensures c.get_u64_le-2.ensures c.get_u64_le-3.ensures c.get_u64_le-4.ensures c.if-control-gt4294967295.false c.rule.ensures ∙ c.if-not-rule.false) refl (omega arith) (rw (sym c.get_u64_le-control.ensures, sym c.get_u64_le.ensures, sym c.get_u64_le-2.ensures, sym c.get_u64_le-3.ensures, sym c.get_u64_le-4.ensures) c.write.ensures)
