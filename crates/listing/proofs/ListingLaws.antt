@@ -31,7 +31,7 @@ lines_of g i f = lines_by g i f.calls f.ending
 -- ---- a listing after some packets
 
 pub record Going (g : Line) (s t₀ t d₀ d : List ℕ) (c : Cursor) (i w : ℕ) : Type 0 where
-  pub same-table : length t ≡ length t₀
+  pub same_table : length t ≡ length t₀
   pub same_out : length d ≡ length d₀
   pub fits : length d₀ ≤ last_place
   pub count : i + length (desk_feed s (desk c t)).calls ≤ last_place
@@ -42,7 +42,7 @@ pub go-start : (g : Line) (s t d : List ℕ) → length s ≤ length t → lengt
 go-start g s t d h l m =
     let same = whole-feed s t h l in
     record {
-      same-table = refl;
+      same_table = refl;
       same_out = refl;
       fits = m;
       count = omega (arith, few-calls s, ap (λ f. length f.calls) same);
@@ -77,7 +77,7 @@ module _ {s : List ℕ} {c : Cursor} {t t' : List ℕ} {x : Told} (e : Comes s c
     unfolding beginning lines_by
     go-line h l p =
         record {
-          same-table = l ∙ k.same-table;
+          same_table = l ∙ k.same_table;
           same_out = same_length p ∙ k.same_out;
           fits = k.fits;
           count = omega (arith, k.count, told-fewer h);
