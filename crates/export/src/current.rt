@@ -18,8 +18,7 @@ fn write(control: u32, token: DurableFenceToken, cookie: SocketCookie, out: &mut
 }
 
 // From bytes to fields.
-#[unsafe(no_mangle)]
-pub extern "C" fn threadwicket_current_decode(bytes: &[u8], fields: &mut [u8]) -> u32
+pub fn threadwicket_current_decode(bytes: &[u8], fields: &mut [u8]) -> u32
     ensures { ViewDecoded current_view bytes.now fields.old result fields.new }
 {
     let read = CurrentFenceToken::decode(bytes).number;
@@ -33,8 +32,7 @@ pub extern "C" fn threadwicket_current_decode(bytes: &[u8], fields: &mut [u8]) -
 }
 
 // From fields to bytes.
-#[unsafe(no_mangle)]
-pub extern "C" fn threadwicket_current_encode(fields: &[u8], bytes: &mut [u8]) -> u32
+pub fn threadwicket_current_encode(fields: &[u8], bytes: &mut [u8]) -> u32
     ensures { ViewEncoded current_view fields.now bytes.old result bytes.new }
 {
     if fields.len() != CurrentFenceToken::LEN {
