@@ -17,7 +17,7 @@ mod packets;
 mod parts;
 mod verdicts;
 
-ghost use Rattle.octets.specs.Words.{◌<◌, ◌≤◌, ◌≡◌, length};
+ghost use Rattle.std.specs.Prelude.{◌<◌, ◌≤◌, ◌≡◌, length};
 
 use libc::STDIN_FILENO;
 use program::{Outcome, Written};
