@@ -15,7 +15,7 @@ ghost use Rattle.packet.specs.Reading.{unrelated, indeterminate, stop, sort_of, 
 use endpoint::ProtectedEndpoint;
 
 // What a packet proves of its source.
-#[derive(Drop)]
+#[derive(Clone, Copy)]
 pub enum PacketEndpointDisposition {
     // The packet is proven to use the protected UDP source.
     Protected,
@@ -50,14 +50,14 @@ impl PacketEndpointDisposition {
 }
 
 // What reading a packet gives: the disposition, and the number of IPv6 extension headers passed on the way.
-#[derive(Drop)]
+#[derive(Clone, Copy)]
 pub struct PacketReading {
     pub disposition: PacketEndpointDisposition,
     pub headers: u8,
 }
 
 // What a next-header value calls for: the port test, Unrelated, one of three length rules, or Indeterminate.
-#[derive(Drop)]
+#[derive(Clone, Copy)]
 enum HeaderClass {
     Udp,
     NotUdp,
@@ -68,7 +68,7 @@ enum HeaderClass {
 }
 
 // What the header at a place comes to: reading stops there, or goes on to the next header's value and place.
-#[derive(Drop)]
+#[derive(Clone, Copy)]
 enum Step {
     Stop(PacketEndpointDisposition),
     Pass { next: u8, at: usize },
@@ -298,6 +298,7 @@ fn ipv4(packet: &[u8], endpoint: ProtectedEndpoint) -> PacketReading
     stopped(udp(packet, port, total, size))
 }
 
+#[tactic(auto, unfolding(crate::specs::Reading::ipv6_head))]
 fn ipv6(packet: &[u8], endpoint: ProtectedEndpoint) -> PacketReading
     ensures { answer_of result ≡ ipv6_of packet.now endpoint }
 {
@@ -336,6 +337,7 @@ fn ipv6(packet: &[u8], endpoint: ProtectedEndpoint) -> PacketReading
 }
 
 // The endpoint is of another family than the packet: the packet is not its own, if it is of any family at all.
+#[tactic(auto, unfolding(crate::specs::Reading::known))]
 fn foreign(family: u8) -> PacketReading
     ensures { answer_of result ≡ cond (known family) (stop 0 unrelated) (stop 0 indeterminate) }
 {
@@ -350,6 +352,7 @@ fn foreign(family: u8) -> PacketReading
 
 // Whether the packet comes from the endpoint. The endpoint need not be sound: spare address bytes are not looked at, and port 0 is
 // compared like any other.
+#[tactic(auto, unfolding(crate::specs::Reading::classify_of, crate::specs::Reading::known))]
 pub fn classify_l3_udp_source(packet: &[u8], endpoint: ProtectedEndpoint) -> PacketReading
     ensures { answer_of result ≡ classify_of packet.now endpoint }
 {

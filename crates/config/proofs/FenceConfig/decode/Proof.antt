@@ -2,7 +2,7 @@
 -- (`read`), so the rule on them decides (`decided`); past the frame it is the endpoint's own (`judged`). Assumes nothing.
 use Rattle.octets.specs.Words.{ℕ, ◌≡◌, List, [], ◌∷◌, ◌++◌}
 use Rattle.octets.specs.Octets.{octets_at, le, le_bytes}
-use Rattle.octets.proofs.Tools.{refl, sym, ◌∙◌, free, not-true, not-false}
+use Rattle.octets.proofs.Tools.{refl, sym, ◌∙◌, free}
 use mathlib.Core.Path.{subst}
 use Rattle.codec.specs.Layout.{fields_at}
 use Rattle.codec.specs.Codec.{ok, Built, Decoded}
@@ -36,7 +36,7 @@ decided a n v b = decode-read a.before.before.before.before.before.before.if-s-n
 address : (a : the.Tie.After-address_at-address) → le_bytes 16 (le (octets_at (bytes a.before.before) 24 16)) ≡ a.address_at-address.result
 address a =
     let known = a.before.before.before.before.before.before.before.before.before in
-    octets-back (bytes a.before.before) 24 16 (λ k. (known.type_inv.s k).fits) ∙ sym a.address_at-address.ensures
+    octets-back (bytes a.before.before) 24 16 (λ k. (known.shared_slice_known-1.given k).fits) ∙ sym a.address_at-address.ensures
 
 judged : (a : the.Tie.After-is_sound) → a.is_sound.result ≡ ok config_codec (numbers a.before.before.before)
 judged a =
