@@ -235,6 +235,7 @@ fn decide_protected(cookie: SocketCookie, authority: FenceAuthoritySnapshot) -> 
 }
 
 // The verdict on a packet: unrelated traffic passes, and whatever is in doubt does not.
+#[tactic(auto, unfolding(crate::specs::Verdict::egress_verdict))]
 pub fn decide_egress(packet: PacketFenceContext, authority: FenceAuthoritySnapshot) -> FenceVerdict
     ensures { slot_of result ≡ egress_verdict packet authority }
 {
