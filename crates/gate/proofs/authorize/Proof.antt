@@ -12,73 +12,73 @@ use Rattle.gate.proofs.authorize.Tie as tie
 
 -- ---- the call, as each test has it
 
-abbrev call5 : tie.After-shared-slice-known2 → Call
+abbrev call5 : tie.After-shared_slice_known-2-1 → Call
 call5 a =
     let args = a.before.before.args in
-    lookup args.cookie.0 args.current.now args.table.now args.now-boot-ns.0
+    lookup args.cookie.0 args.current.now args.table.now args.now_boot_ns.0
 
-abbrev call6 : tie.After-struct-known → Call
+abbrev call6 : tie.After-struct_known-1 → Call
 call6 a = call5 a.before.before.before
 
-abbrev call7 : tie.After-is-admissible → Call
+abbrev call7 : tie.After-is_admissible → Call
 call7 a = call6 a.before.before
 
-abbrev call8 : tie.After-seek → Call
+abbrev call8 : tie.After-seek-found → Call
 call8 a = call7 a.before.before.before.before.before
 
 -- ---- the rules passed over on the way there
 
-past5 : (a : tie.After-struct-known) → Past 5 6 (view_of (call6 a))
+past5 : (a : tie.After-struct_known-1) → Past 5 6 (view_of (call6 a))
 unfolding rules view_of
-past5 a = over (view_of (call6 a)) 5 refl (ne_eqb _ _ a.before.before.if1.left)
+past5 a = over (view_of (call6 a)) 5 refl (ne_eqb _ _ a.before.before.if-own-eq0.false)
 
-published : (a : tie.After-is-admissible) → not (view_of (call7 a)).published ≡ false
+published : (a : tie.After-is_admissible) → not (view_of (call7 a)).published ≡ false
 unfolding view_of
-published a = decoded current_codec a.before.before.before.decode.ensures a.before.if2.left
+published a = decoded current_codec a.before.before.before.decode-published.ensures a.before.if-published-ne0.false
 
-past6 : (a : tie.After-is-admissible) → Past 5 7 (view_of (call7 a))
+past6 : (a : tie.After-is_admissible) → Past 5 7 (view_of (call7 a))
 unfolding rules
 past6 a = past5 a.before.before ∙ over (view_of (call7 a)) 6 refl (published a)
 
-past7 : (a : tie.After-seek) → Past 5 8 (view_of (call8 a))
+past7 : (a : tie.After-seek-found) → Past 5 8 (view_of (call8 a))
 unfolding rules view_of
 past7 a =
     let e = a.before.before.before.before in
-    past6 e.before ∙ over (view_of (call8 a)) 7 refl (ap not (sym e.before.is-admissible.ensures) ∙ e.if3.left)
+    past6 e.before ∙ over (view_of (call8 a)) 7 refl (ap not (sym e.before.is_admissible.ensures) ∙ ap not e.if-not-is_admissible.false)
 
 -- the record in force is the one decoded, and what is found is what is sought under its token
-in-force : (a : tie.After-seek) → a.before.before.before.before.before.before.before.before.decode.result.value ≡ in_force (call8 a)
-in-force a = a.before.before.before.before.before.before.before.before.decode.ensures.value
+in-force : (a : tie.After-seek-found) → a.before.before.before.before.before.before.before.before.decode-published.result.value ≡ in_force (call8 a)
+in-force a = a.before.before.before.before.before.before.before.before.decode-published.ensures.value
 
-found : (a : tie.After-seek) → (view_of (call8 a)).found ≡ held a.seek.result.now
+found : (a : tie.After-seek-found) → (view_of (call8 a)).found ≡ held a.seek-found.result.now
 unfolding view_of
 found a =
     let c = call8 a in
     let b = a.before.before.before.before.before in
-    found-held c (ne_eqb _ _ b.before.before.before.before.if1.left) (published b) ∙
-    ap held (sym (a.seek.ensures ∙ ap (λ v. sought_record c.cookie v.durable_fence_token.0 c.table) (in-force a)))
+    found-held c (ne_eqb _ _ b.before.before.before.before.if-own-eq0.false) (published b) ∙
+    ap held (sym (a.seek-found.ensures ∙ ap (λ v. sought_record c.cookie v.durable_fence_token.0 c.table) (in-force a)))
 
-rule8 : (a : tie.After-seek) → eqb (length (view_of (call8 a)).found) 0 ≡ eqb (length a.seek.result.now) 0
-rule8 a = ap (λ f. eqb (length f) 0) (found a) ∙ held_none a.seek.result.now
+rule8 : (a : tie.After-seek-found) → eqb (length (view_of (call8 a)).found) 0 ≡ eqb (length a.seek-found.result.now) 0
+rule8 a = ap (λ f. eqb (length f) 0) (found a) ∙ held_none a.seek-found.result.now
 
 -- ---- the rule that answers
 
-judged : tie.Need-returns-5
+judged : tie.Need-returns
 unfolding rules view_of
 judged c =
     let a = c.before.before in
     let v = view_of (call8 a) in
-    let some = c.before.if4.left in
+    let some = c.before.if-found-eq0.false in
     let past8 = past7 a ∙ over v 8 refl (rule8 a ∙ ne_eqb _ _ some) in
     let same = at-record v _ _ (found a ∙ held_one _ some) (ap (λ w. w.registered_socket_cookie.0) (sym (in-force a))) in
     c.judge.ensures ∙ ap (λ r. r.number) (sym (past8 ∙ same))
 
-pub authorize-spec : {M : Type 1} → statement M
+pub authorize_spec : {M : Type 1} → statement M
 unfolding rules view_of
-authorize-spec =
+authorize_spec =
     tie.close
-    (tie.spec (λ c. told (view_of (call5 c.before)) 5 refl 5 refl (eq-eqb _ _ c.if1.taken))
-    free (λ c. told (view_of (call6 c.before)) 6 refl 5 (past5 c.before) (undecoded current_codec c.before.before.decode.ensures c.if2.taken))
-    free (λ c. told (view_of (call7 c.before)) 7 refl 5 (past6 c.before) (ap not (sym c.before.is-admissible.ensures) ∙ c.if3.taken))
-    free (λ c. told (view_of (call8 c.before)) 8 refl 5 (past7 c.before) (rule8 c.before ∙ eq-eqb _ _ c.if4.taken))
+    (tie.spec (λ c. told (view_of (call5 c.before)) 5 refl 5 refl (eq-eqb _ _ c.if-own-eq0.true))
+    free (λ c. told (view_of (call6 c.before)) 6 refl 5 (past5 c.before) (undecoded current_codec c.before.before.decode-published.ensures c.if-published-ne0.true))
+    free (λ c. told (view_of (call7 c.before)) 7 refl 5 (past6 c.before) (ap not (sym c.before.is_admissible.ensures) ∙ ap not c.if-not-is_admissible.true))
+    free (λ c. told (view_of (call8 c.before)) 8 refl 5 (past7 c.before) (rule8 c.before ∙ eq-eqb _ _ c.if-found-eq0.true))
     free judged)

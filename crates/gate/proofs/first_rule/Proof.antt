@@ -1,7 +1,7 @@
 -- `first_rule`: rules 1 to 4 are passed over or answer, as the code's tests go; the other nine are `authorize`'s. What the code reads of
 -- the packet is the view's reading. Assumes nothing.
 use Rattle.octets.specs.Words.{◌≡◌, false, not, eqb}
-use Rattle.octets.proofs.Tools.{refl, sym, ap, ◌∙◌, needs, free}
+use Rattle.octets.proofs.Tools.{refl, sym, ap, ◌∙◌, rules as known, free}
 use Rattle.config.specs.Config.{config_codec}
 use Rattle.packet.specs.Answers.{is_unrelated, is_indeterminate, disposition_of, answer_of}
 use Rattle.packet.specs.declared.PacketEndpointDisposition.{PacketEndpointDisposition}
@@ -14,92 +14,92 @@ use Rattle.gate.proofs.first_rule.Tie as tie
 
 -- ---- the call, as each test has it
 
-abbrev call1 : tie.After-struct-known → Call
+abbrev call1 : tie.After-struct_known-1 → Call
 call1 a =
     let args = a.before.before.before.before.before.before.args in
-    given args.config.now args.attachment.0 args.socket args.packet.now args.cookie.0 args.current.now args.table.now args.now-boot-ns.0
+    given args.config.now args.attachment.0 args.socket args.packet.now args.cookie.0 args.current.now args.table.now args.now_boot_ns.0
 
-abbrev call2 : tie.After-is-elsewhere → Call
+abbrev call2 : tie.After-is_elsewhere → Call
 call2 a = call1 a.before.before.before.before.before
 
-abbrev call3 : tie.After-read-source → Call
+abbrev call3 : tie.After-read_source-reading → Call
 call3 a = call2 a.before.before
 
 -- ---- what the tests say of the rules
 
-rule1 : (a : tie.After-is-elsewhere) → not (view_of (call2 a)).configured ≡ false
+rule1 : (a : tie.After-is_elsewhere) → not (view_of (call2 a)).configured ≡ false
 unfolding view_of
-rule1 a = let e = a.before.before.before.before in decoded config_codec e.before.before.decode.ensures e.if1.left
+rule1 a = let e = a.before.before.before.before in decoded config_codec e.before.before.decode-configured.ensures e.if-configured-ne0.false
 
-configured : (a : tie.After-is-elsewhere) → a.before.before.before.before.before.before.decode.result.value ≡ configuration (call2 a)
-configured a = a.before.before.before.before.before.before.decode.ensures.value
+configured : (a : tie.After-is_elsewhere) → a.before.before.before.before.before.before.decode-configured.result.value ≡ configuration (call2 a)
+configured a = a.before.before.before.before.before.before.decode-configured.ensures.value
 
-rule2 : (a : tie.After-is-elsewhere) → not (view_of (call2 a)).attached ≡ a.is-elsewhere.result
+rule2 : (a : tie.After-is_elsewhere) → not (view_of (call2 a)).attached ≡ a.is_elsewhere.result
 unfolding view_of
-rule2 a = sym (a.is-elsewhere.ensures ∙ ap (λ v. not (eqb (call2 a).attachment v.root_cgroup_id.0)) (configured a))
+rule2 a = sym (a.is_elsewhere.ensures ∙ ap (λ v. not (eqb (call2 a).attachment v.root_cgroup_id.0)) (configured a))
 
-past2 : (a : tie.After-read-source) → Past 1 3 (view_of (call3 a))
+past2 : (a : tie.After-read_source-reading) → Past 1 3 (view_of (call3 a))
 unfolding rules
 past2 a =
     let b = a.before.before in
-    over (view_of (call3 a)) 1 refl (rule1 b) ∙ over (view_of (call3 a)) 2 refl (rule2 b ∙ a.before.if2.left)
+    over (view_of (call3 a)) 1 refl (rule1 b) ∙ over (view_of (call3 a)) 2 refl (rule2 b ∙ a.before.if-is_elsewhere.false)
 
 -- the reading is the view's, and so is its disposition
-seen : (a : tie.After-read-source) → answer_of a.read-source.result ≡ (view_of (call3 a)).reading
+seen : (a : tie.After-read_source-reading) → answer_of a.read_source-reading.result ≡ (view_of (call3 a)).reading
 seen a =
     let c = call3 a in
     let b = a.before.before in
-    a.read-source.ensures ∙ ap (λ v. source_of c.socket c.packet v.endpoint) (configured b) ∙
-    sym (consulted-read c (rule1 b) (rule2 b ∙ a.before.if2.left) ∙ source-read c.socket c.packet (endpoint c))
+    a.read_source-reading.ensures ∙ ap (λ v. source_of c.socket c.packet v.endpoint) (configured b) ∙
+    sym (consulted-read c (rule1 b) (rule2 b ∙ a.before.if-is_elsewhere.false) ∙ source-read c.socket c.packet (endpoint c))
 
-disposed : (a : tie.After-read-source) (d : PacketEndpointDisposition) → a.read-source.result.disposition ≡ d → (view_of (call3 a)).reading.disposition ≡ disposition_of d
+disposed : (a : tie.After-read_source-reading) (d : PacketEndpointDisposition) → a.read_source-reading.result.disposition ≡ d → (view_of (call3 a)).reading.disposition ≡ disposition_of d
 disposed a d t = ap (λ r. r.disposition) (sym (seen a)) ∙ ap disposition_of t
 
 -- ---- the rule that answers
 
-returns : tie.Need-returns
+returns : tie.Need-returns-then-configured-ne0
 unfolding rules view_of answering
 returns c =
     let a = c.before.before in
-    let applies = undecoded config_codec a.before.decode.ensures c.before.if1.taken in
-    record { number = c.before-packet.ensures.0 ∙ told (view_of (call1 a)) 1 refl 1 refl applies; reading = c.before-packet.ensures.1 ∙ sym (unread-1 (call1 a) applies) }
+    let applies = undecoded config_codec a.before.decode-configured.ensures c.before.if-configured-ne0.true in
+    record { number = c.before_packet.ensures.0 ∙ told (view_of (call1 a)) 1 refl 1 refl applies; reading = c.before_packet.ensures.1 ∙ sym (unread-1 (call1 a) applies) }
 
-returns-2 : tie.Need-returns-2
+returns-2 : tie.Need-returns-then-is_elsewhere
 unfolding rules answering
 returns-2 c =
     let a = c.before.before in
     let v = view_of (call2 a) in
-    let applies = rule2 a ∙ c.before.if2.taken in
+    let applies = rule2 a ∙ c.before.if-is_elsewhere.true in
     record {
-      number = c.before-packet2.ensures.0 ∙ told v 2 refl 1 (over v 1 refl (rule1 a)) applies;
-      reading = c.before-packet2.ensures.1 ∙ sym (unread-2 (call2 a) (rule1 a) applies);
+      number = c.before_packet-then-is_elsewhere.ensures.0 ∙ told v 2 refl 1 (over v 1 refl (rule1 a)) applies;
+      reading = c.before_packet-then-is_elsewhere.ensures.1 ∙ sym (unread-2 (call2 a) (rule1 a) applies);
     }
 
-returns-3 : tie.Need-returns-3
+returns-3 : tie.Need-returns-in-Unrelated
 unfolding rules answering
 returns-3 c =
-    let a = c.before.before in
-    record { number = told (view_of (call3 a)) 3 refl 1 (past2 a) (ap is_unrelated (disposed a Unrelated c.enum_told.given.1)); reading = seen a }
+    let a = c.before in
+    record { number = told (view_of (call3 a)) 3 refl 1 (past2 a) (ap is_unrelated (disposed a Unrelated c.in-Unrelated.is)); reading = seen a }
 
-returns-4 : tie.Need-returns-4
+returns-4 : tie.Need-returns-in-Indeterminate
 unfolding rules answering
 returns-4 c =
-    let a = c.before.before in
+    let a = c.before in
     let v = view_of (call3 a) in
-    let d = disposed a Indeterminate c.enum-told2.given.1 in
+    let d = disposed a Indeterminate c.in-Indeterminate.is in
     record { number = told v 4 refl 1 (past2 a ∙ over v 3 refl (ap is_unrelated d)) (ap is_indeterminate d); reading = seen a }
 
-returns-5 : tie.Need-returns-5
+returns-5 : tie.Need-returns-in-Protected
 unfolding rules view_of answering
 returns-5 c =
-    let a = c.before.before.before in
+    let a = c.before.before in
     let v = view_of (call3 a) in
-    let d = disposed a Protected c.before.enum-told3.given.1 in
+    let d = disposed a Protected c.before.in-Protected.is in
     record {
-      number = c.authorize.ensures ∙ ap (λ r. r.number) (sym (past2 a ∙ over v 3 refl (ap is_unrelated d) ∙ over v 4 refl (ap is_indeterminate d)));
+      number = c.authorize-rule.ensures ∙ ap (λ r. r.number) (sym (past2 a ∙ over v 3 refl (ap is_unrelated d) ∙ over v 4 refl (ap is_indeterminate d)));
       reading = seen a;
     }
 
-pub first-rule-spec : {M : Type 1} → statement M
-first-rule-spec =
-    tie.close (tie.spec free free returns free free returns-2 free (λ c. search needs) (λ c. search needs) (λ c. search needs) free returns-3 returns-4 returns-5)
+pub first_rule_spec : {M : Type 1} → statement M
+first_rule_spec =
+    tie.close (tie.spec free free returns free free returns-2 free (λ c. search known) (λ c. search known) (λ c. search known) free returns-3 returns-4 returns-5)
