@@ -1,6 +1,6 @@
 -- How many calls a bundle makes, and where its fault can be: each packet frame takes six bytes of the bundle or more, and a frame that
 -- cannot be read begins inside it. Of any reader first. Assumes nothing.
-use Rattle.octets.specs.Words.{ℕ, ◌+◌, ◌*◌, ◌≤◌, ◌≡◌, Bool, true, false, List, length, leb}
+use Rattle.octets.specs.Words.{ℕ, ◌*◌, ◌≤◌, ◌≡◌, Bool, true, false, List, length, leb}
 use Rattle.octets.proofs.Tools.{refl, arith, leb-true, leb-false}
 use Rattle.bundle.specs.Feed.{Ending, ended, bad, Feed, Step, stop, skip, emit, onward, no_call, call_then}
 use Rattle.bundle.specs.Frames.{frame_at, State, initial, step_of, frame_step, left_at, feed_at, bundle_of}

@@ -19,6 +19,8 @@ module _ {A R : Type 0} (close : Ending → A → R) (join : Call → A → R �
   module _ (step : A → Step A) (left : A → ℕ) (falls : Falls step left) where
     enough : (n k : ℕ) (a : A) → left a < n → left a < k → read_in close join step n a ≡ read_in close join step k a
     unfolding read_in
+    enough zero k a h l = elim h [ ]
+    enough (suc n) zero a h l = elim l [ ]
     enough (suc n) (suc k) a h l =
         onward-same (read_in close join step n) (read_in close join step k) left (left a) (λ b m. enough n k b (omega arith) (omega arith)) a (step a) (falls a)
 
@@ -44,6 +46,7 @@ module _ {A : Type 0} (step : A → Step A) (left : A → ℕ) (falls : Falls st
   by-step n h a (emit c b) l = refl
 
   by_next : (n : ℕ) (a : A) → left a < n → run step left a ≡ beginning (run step left) (next_of step left a)
+  by_next zero a h = elim h [ ]
   by_next (suc n) a h =
       run_step a ∙ by-step (left a) (λ b l. by_next n b (omega arith)) a (step a) (falls a) ∙ ap (beginning (run step left)) (sym (next-step a))
 
