@@ -1,7 +1,7 @@
 /*
  * The fence from C: records are made and read back, and a packet is judged before its socket's deadline and at it.
  *
- *     rt staticlib export && rt staticlib export_gate
+ *     ./archives
  *     cc -std=c11 -Iinclude examples/fence.c target/staticlib/libexport.a target/staticlib/libexport_gate.a -o target/fence
  *
  * The numbers are those of document 01's case. Exits with 1 where an answer is not the one expected.

@@ -1,10 +1,11 @@
 /*
  * Threadwicket for programs in C and in languages that call C.
  *
- * The functions are proved in Rattle and stand in two static libraries, both for x86-64:
+ * The functions are proved in Rattle and stand in two static libraries, both for x86-64, which the script `archives` proves and builds:
  *
- *     rt staticlib export         target/staticlib/libexport.a        all but the gate
- *     rt staticlib export_gate    target/staticlib/libexport_gate.a   the gate
+ *     target/staticlib/libexport.a        all but the gate
+ *     target/staticlib/libexport_gate.a   the gate
+ *
  *     cc -Iinclude program.c target/staticlib/libexport.a target/staticlib/libexport_gate.a
  *
  * examples/fence.c uses them. No function allocates, keeps a pointer, reads or writes anything but what it is handed, or fails to

@@ -1,4 +1,4 @@
-//! Links the proved functions, which `rt staticlib` writes to target/staticlib of the repository. THREADWICKET_STATICLIB names another
+//! Links the proved functions, which the script `archives` puts into target/staticlib of the repository. THREADWICKET_STATICLIB names another
 //! folder that has them.
 fn main() {
     println!("cargo:rerun-if-env-changed=THREADWICKET_STATICLIB");

@@ -1,5 +1,5 @@
 // The configuration for programs in other languages. Its fields: family, port, capacity, root cgroup, and the sixteen bytes of the address.
-ghost use Rattle.octets.specs.Words.{◌≡◌, true};
+ghost use Rattle.std.specs.Prelude.{◌≡◌, true};
 ghost use Rattle.octets.specs.Octets.{octets_at};
 ghost use Rattle.export.specs.View.{fitting, numbers, ViewDecoded, ViewEncoded};
 ghost use Rattle.export.specs.Views.{config_view};

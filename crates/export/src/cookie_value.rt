@@ -1,5 +1,5 @@
 // A cookie value for programs in other languages. Its fields: control, cookie, token, deadline, epoch.
-ghost use Rattle.octets.specs.Words.{◌≡◌, [], ◌∷◌};
+ghost use Rattle.std.specs.Prelude.{◌≡◌, [], ◌∷◌};
 ghost use Rattle.export.specs.View.{ViewDecoded, ViewEncoded};
 ghost use Rattle.export.specs.Views.{cookie_value_view};
 ghost use Rattle.codec.specs.Inner.Stores.{puts};

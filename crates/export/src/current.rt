@@ -1,5 +1,5 @@
 // The current record for programs in other languages. Its fields: control, token, cookie.
-ghost use Rattle.octets.specs.Words.{◌≡◌, [], ◌∷◌};
+ghost use Rattle.std.specs.Prelude.{◌≡◌, [], ◌∷◌};
 ghost use Rattle.export.specs.View.{ViewDecoded, ViewEncoded};
 ghost use Rattle.export.specs.Views.{current_view};
 ghost use Rattle.codec.specs.Inner.Stores.{puts};

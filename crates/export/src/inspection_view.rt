@@ -1,6 +1,6 @@
 // An inspection for programs in other languages. Its fields: the flag, then those of the current record, of the mutation authority and of
 // the cookie value, which are zero with flag 0.
-ghost use Rattle.octets.specs.Words.{◌≡◌};
+ghost use Rattle.std.specs.Prelude.{◌≡◌};
 ghost use Rattle.octets.specs.Octets.{put, le_bytes};
 ghost use Rattle.export.specs.View.{sound_image, ViewDecoded, ViewEncoded};
 ghost use Rattle.export.specs.Views.{current_view, mutation_view, inspection_view};

@@ -1,5 +1,5 @@
 // A key for programs in other languages. Its fields: cookie, token.
-ghost use Rattle.octets.specs.Words.{◌≡◌};
+ghost use Rattle.std.specs.Prelude.{◌≡◌};
 ghost use Rattle.export.specs.View.{sound_image, ViewDecoded, ViewEncoded};
 ghost use Rattle.export.specs.Views.{key_view};
 

@@ -12,7 +12,7 @@ pub mod key;
 pub mod mutation;
 mod view;
 
-ghost use Rattle.octets.specs.Words.{◌≡◌};
+ghost use Rattle.std.specs.Prelude.{◌≡◌};
 ghost use Rattle.deadline.specs.Deadline.{refresh_decision};
 ghost use Rattle.packet.specs.Reading.{classify_of};
 ghost use Rattle.export.specs.Export.{Classified};

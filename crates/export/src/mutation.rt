@@ -1,5 +1,5 @@
 // The mutation authority for programs in other languages. Its fields: generation, claim.
-ghost use Rattle.octets.specs.Words.{◌≡◌};
+ghost use Rattle.std.specs.Prelude.{◌≡◌};
 ghost use Rattle.export.specs.View.{sound_image, ViewDecoded, ViewEncoded};
 ghost use Rattle.export.specs.Views.{mutation_view};
 

@@ -3,7 +3,7 @@
 // pointer. include/threadwicket.h has the declarations for C.
 #![tactic(auto)]
 
-ghost use Rattle.octets.specs.Words.{◌≡◌};
+ghost use Rattle.std.specs.Prelude.{◌≡◌};
 ghost use Rattle.deadline.specs.Deadline.{refresh_decision};
 ghost use Rattle.packet.specs.Reading.{classify_of};
 ghost use Rattle.export.specs.Export.{Classified};

@@ -3,7 +3,7 @@
 //! never occurs counts as a failure, so that an empty comparison is seen.
 //!
 //! The two processes share nothing but the query stream, which `stream.rs` describes, so this runs on any machine on which the proved
-//! program runs, by an emulator too.
+//! program runs.
 
 mod bundles;
 mod rng;
