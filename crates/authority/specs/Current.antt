@@ -1,6 +1,7 @@
 -- Document 01, 'Record layouts': "Current, 24: all zero is the initial record. Else bytes 0-3 zero, control u32, token u64, cookie
 -- u64." Assumes nothing.
-use Rattle.codec.specs.Words.{ℕ, ◌%◌, ◌^◌, ◌<◌, Bool, true, false, cond, not, ◌&&◌, ◌||◌, [], ◌∷◌, get_or, eqb, little, test, Codec}
+use Rattle.std.specs.Prelude.{ℕ, ◌%◌, ◌^◌, ◌<◌, Bool, true, false, cond, not, ◌&&◌, ◌||◌, [], ◌∷◌, get_or, eqb}
+use Rattle.codec.specs.Words.{little, test, Codec}
 use Rattle.authority.specs.declared.current.CurrentFenceToken.{CurrentFenceToken}
 
 abbrev pub current : ℕ → ℕ → Bool → CurrentFenceToken

@@ -1,5 +1,6 @@
 -- Document 01, 'Record layouts': "Mutation, 16: generation, claim." Assumes nothing.
-use Rattle.codec.specs.Words.{ℕ, ◌+◌, ◌^◌, ◌<◌, Bool, ◌&&◌, ◌||◌, [], ◌∷◌, get_or, eqb, ltb, little, test, Codec}
+use Rattle.std.specs.Prelude.{ℕ, ◌+◌, ◌^◌, ◌<◌, Bool, ◌&&◌, ◌||◌, [], ◌∷◌, get_or, eqb, ltb}
+use Rattle.codec.specs.Words.{little, test, Codec}
 use Rattle.authority.specs.declared.mutation.FenceMutationAuthority.{FenceMutationAuthority}
 
 -- of generation and claim: "Claim is 0, or generation + 1 with generation below 2^64 - 1."

@@ -1,5 +1,6 @@
 // The current record, 24 bytes: the durable token in force, and the socket cookie registered under it.
-ghost use Rattle.codec.specs.Words.{◌≡◌, not, [], ◌∷◌, eqb, put, asking, ok, bytes, Built, Decoded, Encoded, sound};
+ghost use Rattle.std.specs.Prelude.{◌≡◌, not, [], ◌∷◌, eqb};
+ghost use Rattle.codec.specs.Words.{put, asking, ok, bytes, Built, Decoded, Encoded, sound};
 ghost use Rattle.authority.specs.Current.{current, open_control, retired_control, current_control, current_codec, is_lifecycle_open, is_retirement_closed};
 
 use units::{DurableFenceToken, SocketCookie};

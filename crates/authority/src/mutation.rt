@@ -1,5 +1,6 @@
 // The mutation authority, 16 bytes: the last completed generation, and the claim in flight.
-ghost use Rattle.codec.specs.Words.{◌≡◌, [], ◌∷◌, put, bytes, Built, Decoded, Encoded, sound};
+ghost use Rattle.std.specs.Prelude.{◌≡◌, [], ◌∷◌};
+ghost use Rattle.codec.specs.Words.{put, bytes, Built, Decoded, Encoded, sound};
 ghost use Rattle.authority.specs.Mutation.{mutation_codec};
 
 // Generation and claim; a claim of 0 is none.

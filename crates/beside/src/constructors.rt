@@ -1,7 +1,7 @@
 // Queries 32 to 45: the constructors of the seven records. Arguments that are records come as bytes and are decoded first. The answer is
 // the constructor's number (u8), what the encoder writes of the record that was made to an output of zeros of the record's length, and
 // every field of the record that the decoder gives for those bytes, as `fields` lists them.
-ghost use Rattle.octets.specs.Words.{◌≤◌};
+ghost use Rattle.std.specs.Prelude.{◌≤◌};
 
 use crate::{fields, parts};
 use authority::current::CurrentFenceToken;

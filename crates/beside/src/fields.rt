@@ -1,5 +1,5 @@
 // The fields of each record, by their accessors, as an answer has them.
-ghost use Rattle.octets.specs.Words.{◌≤◌};
+ghost use Rattle.std.specs.Prelude.{◌≤◌};
 
 use authority::current::CurrentFenceToken;
 use authority::mutation::FenceMutationAuthority;

@@ -2,7 +2,7 @@
 // each), the attachment number, the socket (family, address, port), cookie and boot time; a filler record and how often it stands before
 // and after the table's own bytes (u16 each); the length of those (u16); then configuration, current record, the table's own bytes, and
 // the packet. What is lent is the reading: the number of extension headers passed (u64).
-ghost use Rattle.octets.specs.Words.{◌≤◌, length};
+ghost use Rattle.std.specs.Prelude.{◌≤◌, length};
 
 use crate::{lent, parts};
 

@@ -1,6 +1,6 @@
 // Queries 1 to 5: deadlines, and the endpoint's constructors and match tests. Each puts its answer at the start of `out` and answers how
 // long it is, or 0 where the body has not the query's length.
-ghost use Rattle.octets.specs.Words.{◌≤◌};
+ghost use Rattle.std.specs.Prelude.{◌≤◌};
 
 use crate::{fields, parts};
 use endpoint::{EndpointAnswer, ProtectedEndpoint};

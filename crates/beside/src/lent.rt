@@ -1,6 +1,6 @@
 // Queries 8, 16 to 30 and 56: the functions for C that write to memory that is lent to them. The body begins with the length of that
 // memory, `room` (u8); all of it holds a5 before the call. The answer is the function's number (u16), then all of the memory.
-ghost use Rattle.octets.specs.Words.{◌≤◌};
+ghost use Rattle.std.specs.Prelude.{◌≤◌};
 
 use crate::{codecs, gates, packets, parts};
 

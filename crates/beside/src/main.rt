@@ -17,10 +17,10 @@ mod packets;
 mod parts;
 mod verdicts;
 
-ghost use Rattle.octets.specs.Words.{◌<◌, ◌≤◌, ◌≡◌, length};
+ghost use Rattle.std.specs.Prelude.{◌<◌, ◌≤◌, ◌≡◌, length};
 
-use libc::STDIN_FILENO;
-use program::{Outcome, Written};
+use program::{Outcome, Streams, Written};
+use std::io::Read;
 
 // More blocks than any stream has: so the loop over them is seen to end.
 const BLOCKS: u64 = 1_000_000_000_000;
@@ -44,61 +44,67 @@ struct Step {
     outcome: Outcome,
 }
 
-fn main() {
+fn main(rt: HostRuntime) {
+    let to = Streams {
+        out: rt.stdout(),
+        err: rt.stderr(),
+    };
     if program::begins(
+        &rt,
+        to,
         b"beside",
         b"usage: beside < QUERIES\n\nThe test driver: answers a stream of queries, so that the library can be run beside the original it is compared with. Its\nsource has the form of a stream; oracle/compare makes streams.\n\nStatus, as the script threadwicket gives it: 0 where every query was answered; 2 where the stream is malformed or could not be\nread, or the answers not be written, which a line on descriptor 2 says. The program by itself has no status.\n",
         b"beside: it takes no argument: a stream of queries comes on standard input (beside --help says more)\n",
     ) {
-        program::end(answer_stream());
+        program::end(&rt, answer_stream(&mut rt.stdin(), to));
     }
 }
 
 // Answers the stream, block by block.
-fn answer_stream() -> Outcome {
+fn answer_stream<R: Read>(from: &mut R, to: Streams) -> Outcome {
     let mut blocks: u64 = 0;
     while blocks < BLOCKS {
-        let turn = take_block();
+        let turn = take_block(from, to);
         if let Turn::Over(outcome) = turn {
             return outcome;
         }
         blocks += 1;
     }
-    program::complain(b"beside: the stream does not end\n")
+    program::complain(to, b"beside: the stream does not end\n")
 }
 
 // Says what is wrong, and that nothing more is to be done.
-fn complain(line: &[u8]) -> Turn {
-    Turn::Over(program::complain(line))
+fn complain(to: Streams, line: &[u8]) -> Turn {
+    Turn::Over(program::complain(to, line))
 }
 
 // Reads a block and answers it.
-fn take_block() -> Turn {
+fn take_block<R: Read>(from: &mut R, to: Streams) -> Turn {
     let mut head = [0u8; 4];
-    let got = program::fill(STDIN_FILENO, &mut head);
+    let got = program::fill(from, &mut head);
     if got.failed {
-        return complain(b"beside: the input could not be read\n");
+        return complain(to, b"beside: the input could not be read\n");
     }
     if got.length == 0 {
         return Turn::Over(Outcome::Answered);
     }
     if got.length != 4 {
-        return complain(b"beside: the stream ends inside a block's length\n");
+        return complain(to, b"beside: the stream ends inside a block's length\n");
     }
     let size = octets::get_u32_le(&head, 0) as usize;
     if 65536 < size {
-        return complain(b"beside: a block is longer than 65536 bytes\n");
+        return complain(to, b"beside: a block is longer than 65536 bytes\n");
     }
     let mut space = [0u8; 65536];
     let block: &mut [u8] = &mut space;
-    let filled = program::fill(STDIN_FILENO, &mut block[0..size]);
+    let filled = program::fill(from, &mut block[0..size]);
     if filled.failed {
-        return complain(b"beside: the input could not be read\n");
+        return complain(to, b"beside: the input could not be read\n");
     }
     if filled.length != size {
-        return complain(b"beside: the stream ends inside a block\n");
+        return complain(to, b"beside: the stream ends inside a block\n");
     }
-    answer_all(parts::front(block, size))
+    answer_all(parts::front(block, size), to)
 }
 
 // Where the query that begins at `at` ends, or 0 where it is cut.
@@ -120,8 +126,9 @@ fn query_end(block: &[u8], at: usize) -> usize
 }
 
 // Writes the answers that were gathered.
-fn flush(out: &[u8], used: usize) -> Written {
+fn flush(out: &[u8], used: usize, to: Streams) -> Written {
     program::answer(
+        to,
         parts::front(out, used),
         b"beside: the answers could not be written\n",
     )
@@ -139,11 +146,11 @@ fn stopped(outcome: Outcome) -> Step
 }
 
 // A query is at fault: the answers before it are written, and then the complaint.
-fn refuse(out: &[u8], used: usize, line: &[u8]) -> Step
+fn refuse(out: &[u8], used: usize, to: Streams, line: &[u8]) -> Step
     ensures { result.used ≤ 65024 }
 {
-    flush(out, used);
-    stopped(program::complain(line))
+    flush(out, used, to);
+    stopped(program::complain(to, line))
 }
 
 // The next query begins at `at`, once the answers that were gathered are written.
@@ -162,14 +169,14 @@ fn onward(written: Written, at: usize) -> Step
 }
 
 // Answers the query that begins at `at`, after `used` bytes of gathered answers.
-fn answer_one(block: &[u8], at: usize, out: &mut [u8], used: usize) -> Step
+fn answer_one(block: &[u8], at: usize, out: &mut [u8], used: usize, to: Streams) -> Step
     requires { (at < length block.now) × ((used ≤ 65024) × (length out.old ≡ 65536)) }
     ensures { result.used ≤ 65024 }
 {
     let start = at + 3;
     let end = query_end(block, at);
     if end < start {
-        return refuse(out, used, b"beside: a query is cut\n");
+        return refuse(out, used, to, b"beside: a query is cut\n");
     }
     let n = answer(
         octets::get_u8(block, at),
@@ -177,7 +184,12 @@ fn answer_one(block: &[u8], at: usize, out: &mut [u8], used: usize) -> Step
         &mut out[used..],
     );
     if n == 0 {
-        return refuse(out, used, b"beside: a query has no such kind or length\n");
+        return refuse(
+            out,
+            used,
+            to,
+            b"beside: a query has no such kind or length\n",
+        );
     }
     if used + n <= FULL {
         return Step {
@@ -186,17 +198,17 @@ fn answer_one(block: &[u8], at: usize, out: &mut [u8], used: usize) -> Step
             outcome: Outcome::Answered,
         };
     }
-    onward(flush(out, used + n), end)
+    onward(flush(out, used + n, to), end)
 }
 
 // Answers the queries of a block.
-fn answer_all(block: &[u8]) -> Turn {
+fn answer_all(block: &[u8], to: Streams) -> Turn {
     let mut space = [0u8; 65536];
     let out: &mut [u8] = &mut space;
     let mut used = 0;
     let mut at = 0;
     while at < block.len() {
-        let step = answer_one(block, at, out, used);
+        let step = answer_one(block, at, out, used, to);
         let outcome = step.outcome;
         if step.at <= at {
             return Turn::Over(outcome);
@@ -204,7 +216,7 @@ fn answer_all(block: &[u8]) -> Turn {
         at = step.at;
         used = step.used;
     }
-    after_block(flush(out, used))
+    after_block(flush(out, used, to))
 }
 
 // Another block may come where the answers of this one were written.

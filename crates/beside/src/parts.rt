@@ -1,5 +1,5 @@
 // Parts of bodies and answers.
-ghost use Rattle.octets.specs.Words.{◌≤◌};
+ghost use Rattle.std.specs.Prelude.{◌≤◌};
 
 use endpoint::ProtectedEndpoint;
 

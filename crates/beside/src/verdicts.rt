@@ -1,6 +1,6 @@
 // Query 48: what is known of a packet and of the authority. The answer is the verdict's slot, or ff where it has none, and whether the
 // packet must be dropped.
-ghost use Rattle.octets.specs.Words.{◌≤◌};
+ghost use Rattle.std.specs.Prelude.{◌≤◌};
 
 use packet::PacketEndpointDisposition;
 use records::entry::{FenceEntry, FenceEntryState};

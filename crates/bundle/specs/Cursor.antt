@@ -1,6 +1,6 @@
 -- Reading a bundle from a cursor: where the bodies in force stand in the bundle itself, with the table of cookie values gathered in lent
 -- bytes. The state that this stands for, and the reader that goes from cursor to cursor. Assumes nothing.
-use Rattle.octets.specs.Words.{ℕ, ◌+◌, ◌-◌, cond, List, length, take, replicate, leb}
+use Rattle.std.specs.Prelude.{ℕ, ◌+◌, ◌-◌, cond, List, length, take, replicate, leb}
 use Rattle.octets.specs.Octets.{octets_at, put}
 use Rattle.text.specs.Text.{after}
 use Rattle.bundle.specs.Feed.{ended, bad, Feed, Step, stop, skip, emit, run, Next, called, over, next_of}

@@ -1,7 +1,7 @@
 -- A feed: calls of the gate, how they end, and the place where reading stopped. Any reader makes one: at each place it says that the calls
 -- end there, that nothing is to be judged, or which call is, and where to read on. Something that is left falls with each step, so that
 -- every reading ends. Assumes nothing.
-use Rattle.octets.specs.Words.{ℕ, zero, suc, ◌<◌, ◌≡◌, List, [], ◌∷◌}
+use Rattle.std.specs.Prelude.{ℕ, zero, suc, ◌<◌, ◌≡◌, List, [], ◌∷◌}
 use Rattle.gate.specs.Gate.{Call}
 
 -- the end, or a fault at an offset

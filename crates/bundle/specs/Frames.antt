@@ -1,5 +1,5 @@
 -- Document 01, 'The bundle and its listing': frames, the state that they set, and the calls that a bundle makes. Assumes nothing.
-use Rattle.octets.specs.Words.{ℕ, ◌+◌, ◌-◌, cond, List, [], ◌++◌, length, replicate, eqb, ltb, leb}
+use Rattle.std.specs.Prelude.{ℕ, ◌+◌, ◌-◌, cond, List, [], ◌++◌, length, replicate, eqb, ltb, leb}
 use Rattle.octets.specs.Octets.{octets_at, le}
 use Rattle.gate.specs.Gate.{Call}
 use Rattle.gate.specs.declared.Socket.{Socket}

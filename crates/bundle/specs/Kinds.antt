@@ -1,5 +1,5 @@
 -- Document 01, 'The bundle and its listing': what may stand at an offset of a bundle, a frame of one of five kinds or none. Assumes nothing.
-use Rattle.octets.specs.Words.{ℕ}
+use Rattle.std.specs.Prelude.{ℕ}
 
 pub data Frame : Type 0 where
   Config : Frame

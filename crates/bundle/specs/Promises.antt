@@ -1,5 +1,5 @@
 -- What is promised of reading a bundle beside the contracts. Each claim is proved in proofs/. Assumes nothing.
-use Rattle.octets.specs.Words.{ℕ, ◌*◌, ◌≤◌, ◌≡◌, List, length}
+use Rattle.std.specs.Prelude.{ℕ, ◌*◌, ◌≤◌, ◌≡◌, List, length}
 use Rattle.text.specs.Text.{last_place}
 use Rattle.bundle.specs.Feed.{map_feed}
 use Rattle.bundle.specs.Frames.{bundle_of}

@@ -1,5 +1,5 @@
 // A packet judged by what is in force at a cursor.
-ghost use Rattle.octets.specs.Words.{◌≤◌, ◌≡◌, length, take, replicate};
+ghost use Rattle.std.specs.Prelude.{◌≤◌, ◌≡◌, length, take, replicate};
 ghost use Rattle.gate.specs.Gate.{gate_of, answer_of};
 ghost use Rattle.bundle.specs.Frames.{socket_of, call_of};
 ghost use Rattle.bundle.specs.Cursor.{held, state_of};

@@ -1,5 +1,5 @@
 // The frames of a bundle: what stands at an offset, what is in force there, and the next packet.
-ghost use Rattle.octets.specs.Words.{◌≡◌};
+ghost use Rattle.std.specs.Prelude.{◌≡◌};
 ghost use Rattle.bundle.specs.Frames.{exactly, frame_of, frame_at};
 ghost use Rattle.bundle.specs.Cursor.{start_of, next_at, next_is};
 ghost use Rattle.bundle.specs.Inner.Steps.{frame_is};

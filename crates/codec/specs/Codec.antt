@@ -1,6 +1,6 @@
 -- A codec: what a record's bytes mean. What decoding and encoding give, for any record (document 01, 'Numbers given back'), and the first
 -- field at fault (document 02, K6). Assumes nothing.
-use Rattle.octets.specs.Words.{ℕ, ◌+◌, ◌≡◌, Bool, true, false, cond, not, ◌&&◌, ◌||◌, List, [], ◌∷◌, ◌++◌, length, drop, eqb, leb}
+use Rattle.std.specs.Prelude.{ℕ, ◌+◌, ◌≡◌, Bool, true, false, cond, not, ◌&&◌, ◌||◌, List, [], ◌∷◌, ◌++◌, length, drop, eqb, leb}
 use Rattle.codec.specs.Layout.{Field, size, fields_at, laid}
 
 -- A test on the numbers of a record's fields, with the offset in the record of the field that it is about; of two fields that have to

@@ -1,6 +1,6 @@
 -- The head that a configuration, an inspection and a control message share (document 01, 'Record layouts'; lib.rs): a mark of four octets,
 -- a version of two, an octet of the record's own, and a zero. Assumes nothing.
-use Rattle.octets.specs.Words.{ℕ, Bool, List, [], ◌∷◌, get_or, eqb}
+use Rattle.std.specs.Prelude.{ℕ, Bool, List, [], ◌∷◌, get_or, eqb}
 use Rattle.codec.specs.Layout.{Field, little, big}
 use Rattle.codec.specs.Codec.{Test, test}
 use Rattle.codec.specs.declared.Head.{Head}

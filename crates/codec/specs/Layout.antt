@@ -1,6 +1,6 @@
 -- Layouts: a record's bytes are fields side by side, each a number of so many octets in one of the two orders
 -- (document 01, 'Record layouts': "Numbers are little-endian except the port"). Assumes nothing.
-use Rattle.octets.specs.Words.{ℕ, ◌+◌, ◌^◌, ◌<◌, List, [], ◌∷◌, ◌++◌}
+use Rattle.std.specs.Prelude.{ℕ, ◌+◌, ◌^◌, ◌<◌, List, [], ◌∷◌, ◌++◌}
 use Rattle.octets.specs.Octets.{octets_at, le, be, le_bytes, be_bytes}
 
 -- a field of n octets, least or most significant first

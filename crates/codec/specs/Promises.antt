@@ -1,6 +1,6 @@
 -- What is promised of every record's functions, from their contracts alone (demand 2). `Formed v` says that v is a value of its type: each
 -- number within its width, each array of its length, which the language guarantees of every value that code can hold. Assumes nothing.
-use Rattle.octets.specs.Words.{ℕ, ◌≤◌, ◌≡◌, Bool, true, false, ◌&&◌, List, [], ◌∷◌, ◌++◌, length, take, drop, eqb, leb}
+use Rattle.std.specs.Prelude.{ℕ, ◌≤◌, ◌≡◌, Bool, true, false, ◌&&◌, List, [], ◌∷◌, ◌++◌, length, take, drop, eqb, leb}
 use Rattle.octets.specs.Octets.{Bytes}
 use Rattle.codec.specs.Layout.{size, Fit}
 use Rattle.codec.specs.Codec.{Test, Codec, decode_number, fault_of, is_clean, sound, Built, Made, Decoded, Encoded}

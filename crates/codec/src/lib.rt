@@ -1,7 +1,7 @@
 // What the records share: the number that is answered where something has to have room, and the head of mark, version, octet and zero.
 #![tactic(auto)]
 
-ghost use Rattle.octets.specs.Words.{◌≡◌};
+ghost use Rattle.std.specs.Prelude.{◌≡◌};
 ghost use Rattle.octets.specs.Octets.{put};
 ghost use Rattle.codec.specs.Layout.{fields_at, laid};
 ghost use Rattle.codec.specs.Codec.{room_answer, unsound_number};

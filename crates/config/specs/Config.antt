@@ -1,6 +1,6 @@
 -- Document 01, 'Record layouts': "Config, 40: "OEF1"; version 5 (u16); family 4 or 6; 0; port big-endian; two zeros; capacity u32,
 -- exactly 4,096; root cgroup u64, not 0; address at 24. For IPv4, 28 to 39 are zero. The endpoint obeys its rules." Assumes nothing.
-use Rattle.octets.specs.Words.{ℕ, ◌^◌, ◌<◌, ◌≡◌, Bool, true, cond, not, [], ◌∷◌, ◌++◌, length, get_or, eqb}
+use Rattle.std.specs.Prelude.{ℕ, ◌^◌, ◌<◌, ◌≡◌, Bool, true, cond, not, [], ◌∷◌, ◌++◌, length, get_or, eqb}
 use Rattle.octets.specs.Octets.{Bytes, octets_at, le, le_bytes}
 use Rattle.codec.specs.Layout.{little, big}
 use Rattle.codec.specs.Codec.{test, Codec}

@@ -1,6 +1,6 @@
 -- What is promised of a configuration: the laws of `codec`, and that its rule is that of the frame and that of its own endpoint.
 -- Assumes nothing.
-use Rattle.octets.specs.Words.{◌≡◌, ◌&&◌, not, eqb}
+use Rattle.std.specs.Prelude.{◌≡◌, ◌&&◌, not, eqb}
 use Rattle.codec.specs.Codec.{sound}
 use Rattle.codec.specs.Promises.{Laws, InOrder}
 use Rattle.endpoint.specs.Endpoint.{sound_endpoint}

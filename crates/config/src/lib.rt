@@ -2,7 +2,7 @@
 // given back are those of `records`.
 #![tactic(auto)]
 
-ghost use Rattle.octets.specs.Words.{◌≡◌, ◌&&◌};
+ghost use Rattle.std.specs.Prelude.{◌≡◌, ◌&&◌};
 ghost use Rattle.octets.specs.Octets.{octets_at, put};
 ghost use Rattle.codec.specs.Codec.{Made, Decoded, Encoded, sound, bytes};
 ghost use Rattle.config.specs.Config.{version_listed, capacity_fits, config, config_codec};

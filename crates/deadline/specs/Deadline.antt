@@ -1,5 +1,5 @@
 -- Document 01, 'Deadlines': whether a refresh may put a requested deadline in the place of the prior one. Assumes nothing.
-use Rattle.octets.specs.Words.{ℕ, ◌-◌, cond, ◌||◌, ltb, leb}
+use Rattle.std.specs.Prelude.{ℕ, ◌-◌, cond, ◌||◌, ltb, leb}
 use Rattle.deadline.specs.declared.RefreshDeadlineDecision.{RefreshDeadlineDecision}
 use Rattle.deadline.specs.declared.RefreshDeadlineDecision.TheVariants.{PriorExpired, RequestedDeadlineInvalid, DeadlineRegressed, Apply}
 

@@ -1,7 +1,7 @@
 // The refresh-deadline check: whether a requested deadline may take the place of the prior one.
 #![tactic(auto)]
 
-ghost use Rattle.octets.specs.Words.{◌≡◌};
+ghost use Rattle.std.specs.Prelude.{◌≡◌};
 ghost use Rattle.deadline.specs.Deadline.{decision_number, refresh_decision};
 
 use units::BootNs;

@@ -1,5 +1,5 @@
 -- Document 01, 'Endpoint rules': which addresses and ports may be protected, and when a source matches. Assumes nothing.
-use Rattle.octets.specs.Words.{ℕ, ◌/◌, Bool, true, cond, not, ◌&&◌, ◌||◌, List, ◌++◌, get_or, replicate, eqb, ltb}
+use Rattle.std.specs.Prelude.{ℕ, ◌/◌, Bool, true, cond, not, ◌&&◌, ◌||◌, List, ◌++◌, get_or, replicate, eqb, ltb}
 use Rattle.octets.specs.Octets.{octets_at, all_zero, same_octets}
 use Rattle.endpoint.specs.declared.ProtectedEndpoint.{ProtectedEndpoint}
 use Rattle.endpoint.specs.declared.EndpointAnswer.{EndpointAnswer}

@@ -1,7 +1,7 @@
 // The protected endpoint: the one UDP source address and port that a fence guards.
 #![tactic(auto)]
 
-ghost use Rattle.octets.specs.Words.{◌≡◌, ◌++◌, replicate};
+ghost use Rattle.std.specs.Prelude.{◌≡◌, ◌++◌, replicate};
 ghost use Rattle.octets.specs.Octets.{octets_at, all_zero};
 ghost use Rattle.endpoint.specs.Endpoint.{usable_ipv4, usable_ipv6, link_local, ipv4_mapped, sound_endpoint, made, ipv4_of, ipv6_of, matches_ipv4, matches_ipv6};
 

@@ -6,3 +6,4 @@ pub mod InspectionLaws
 pub mod UniqueLaws
 pub mod Unique
 pub mod LentLaws
+pub mod RoomLaws

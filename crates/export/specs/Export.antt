@@ -1,6 +1,6 @@
 -- Answers for programs in other languages, of which document 01 does not speak: a number, and beside it, in room that the caller lends, how
 -- many extension headers were passed, as 01 counts them. Assumes nothing.
-use Rattle.octets.specs.Words.{ℕ, ◌≡◌, cond, List, length, leb}
+use Rattle.std.specs.Prelude.{ℕ, ◌≡◌, cond, List, length, leb}
 use Rattle.octets.specs.Octets.{put, le_bytes}
 use Rattle.packet.specs.Reading.{Answer}
 use Rattle.packet.specs.Answers.{disposition_number}

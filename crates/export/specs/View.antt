@@ -2,7 +2,7 @@
 -- is how a C struct of `uint64_t` holds it on x86-64; an address has its sixteen octets as they stand. What decoding into such an image
 -- gives and what encoding from one, for any codec; the numbers given back are those of document 01, 'Numbers given back', with 1 also for
 -- an image of another length and 4 also for an image without room. Assumes nothing.
-use Rattle.octets.specs.Words.{ℕ, ◌^◌, ◌≡◌, Bool, true, cond, ◌&&◌, List, [], ◌∷◌, ◌++◌, length, drop, replicate, eqb, ltb, leb}
+use Rattle.std.specs.Prelude.{ℕ, ◌^◌, ◌≡◌, Bool, true, cond, ◌&&◌, List, [], ◌∷◌, ◌++◌, length, drop, replicate, eqb, ltb, leb}
 use Rattle.codec.specs.Layout.{Field, little, width, size, fields_at, laid}
 use Rattle.codec.specs.Codec.{Codec, ok, decode_number, decode_value, room_answer, unsound_number, written}
 

@@ -1,6 +1,6 @@
 -- The views of the seven records: which fields of document 01's 'Record layouts' are a record's own numbers. Marks, versions and zeros
 -- are not. Assumes nothing.
-use Rattle.octets.specs.Words.{ℕ, List, [], ◌∷◌, ◌++◌}
+use Rattle.std.specs.Prelude.{ℕ, List, [], ◌∷◌, ◌++◌}
 use Rattle.authority.specs.declared.current.CurrentFenceToken.{CurrentFenceToken}
 use Rattle.authority.specs.declared.mutation.FenceMutationAuthority.{FenceMutationAuthority}
 use Rattle.records.specs.declared.key.FenceCookieKey.{FenceCookieKey}

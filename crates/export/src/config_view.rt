@@ -1,5 +1,5 @@
 // The configuration for programs in other languages. Its fields: family, port, capacity, root cgroup, and the sixteen bytes of the address.
-ghost use Rattle.octets.specs.Words.{◌≡◌, true};
+ghost use Rattle.std.specs.Prelude.{◌≡◌, true};
 ghost use Rattle.octets.specs.Octets.{octets_at};
 ghost use Rattle.export.specs.View.{fitting, numbers, ViewDecoded, ViewEncoded};
 ghost use Rattle.export.specs.Views.{config_view};
@@ -55,8 +55,7 @@ fn record_of(fields: &[u8]) -> FenceConfig
 }
 
 // From bytes to fields.
-#[unsafe(no_mangle)]
-pub extern "C" fn threadwicket_config_decode(bytes: &[u8], fields: &mut [u8]) -> u32
+pub fn threadwicket_config_decode(bytes: &[u8], fields: &mut [u8]) -> u32
     ensures { ViewDecoded config_view bytes.now fields.old result fields.new }
 {
     let read = FenceConfig::decode(bytes).number;
@@ -73,8 +72,7 @@ pub extern "C" fn threadwicket_config_decode(bytes: &[u8], fields: &mut [u8]) ->
 }
 
 // From fields to bytes, by the record's own encoder.
-#[unsafe(no_mangle)]
-pub extern "C" fn threadwicket_config_encode(fields: &[u8], bytes: &mut [u8]) -> u32
+pub fn threadwicket_config_encode(fields: &[u8], bytes: &mut [u8]) -> u32
     ensures { ViewEncoded config_view fields.now bytes.old result bytes.new }
 {
     if fields.len() != FIELDS {

@@ -1,5 +1,5 @@
 // A cookie value for programs in other languages. Its fields: control, cookie, token, deadline, epoch.
-ghost use Rattle.octets.specs.Words.{◌≡◌, [], ◌∷◌};
+ghost use Rattle.std.specs.Prelude.{◌≡◌, [], ◌∷◌};
 ghost use Rattle.export.specs.View.{ViewDecoded, ViewEncoded};
 ghost use Rattle.export.specs.Views.{cookie_value_view};
 ghost use Rattle.codec.specs.Inner.Stores.{puts};
@@ -27,8 +27,7 @@ fn write(
 }
 
 // From bytes to fields.
-#[unsafe(no_mangle)]
-pub extern "C" fn threadwicket_cookie_value_decode(bytes: &[u8], fields: &mut [u8]) -> u32
+pub fn threadwicket_cookie_value_decode(bytes: &[u8], fields: &mut [u8]) -> u32
     ensures { ViewDecoded cookie_value_view bytes.now fields.old result fields.new }
 {
     let read = FenceCookieValue::decode(bytes).number;
@@ -44,8 +43,8 @@ pub extern "C" fn threadwicket_cookie_value_decode(bytes: &[u8], fields: &mut [u
 }
 
 // From fields to bytes.
-#[unsafe(no_mangle)]
-pub extern "C" fn threadwicket_cookie_value_encode(fields: &[u8], bytes: &mut [u8]) -> u32
+#[tactic(auto, using(crate::proofs::RoomLaws::no_room_number, crate::proofs::RoomLaws::no_room_output))]
+pub fn threadwicket_cookie_value_encode(fields: &[u8], bytes: &mut [u8]) -> u32
     ensures { ViewEncoded cookie_value_view fields.now bytes.old result bytes.new }
 {
     if fields.len() != FenceCookieValue::LEN {

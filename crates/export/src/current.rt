@@ -1,5 +1,5 @@
 // The current record for programs in other languages. Its fields: control, token, cookie.
-ghost use Rattle.octets.specs.Words.{◌≡◌, [], ◌∷◌};
+ghost use Rattle.std.specs.Prelude.{◌≡◌, [], ◌∷◌};
 ghost use Rattle.export.specs.View.{ViewDecoded, ViewEncoded};
 ghost use Rattle.export.specs.Views.{current_view};
 ghost use Rattle.codec.specs.Inner.Stores.{puts};
@@ -18,8 +18,7 @@ fn write(control: u32, token: DurableFenceToken, cookie: SocketCookie, out: &mut
 }
 
 // From bytes to fields.
-#[unsafe(no_mangle)]
-pub extern "C" fn threadwicket_current_decode(bytes: &[u8], fields: &mut [u8]) -> u32
+pub fn threadwicket_current_decode(bytes: &[u8], fields: &mut [u8]) -> u32
     ensures { ViewDecoded current_view bytes.now fields.old result fields.new }
 {
     let read = CurrentFenceToken::decode(bytes).number;
@@ -33,8 +32,7 @@ pub extern "C" fn threadwicket_current_decode(bytes: &[u8], fields: &mut [u8]) -
 }
 
 // From fields to bytes.
-#[unsafe(no_mangle)]
-pub extern "C" fn threadwicket_current_encode(fields: &[u8], bytes: &mut [u8]) -> u32
+pub fn threadwicket_current_encode(fields: &[u8], bytes: &mut [u8]) -> u32
     ensures { ViewEncoded current_view fields.now bytes.old result bytes.new }
 {
     if fields.len() != CurrentFenceToken::LEN {

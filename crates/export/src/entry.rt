@@ -1,5 +1,5 @@
 // An entry for programs in other languages. Its fields: control, token, deadline, epoch.
-ghost use Rattle.octets.specs.Words.{◌≡◌, [], ◌∷◌};
+ghost use Rattle.std.specs.Prelude.{◌≡◌, [], ◌∷◌};
 ghost use Rattle.export.specs.View.{ViewDecoded, ViewEncoded};
 ghost use Rattle.export.specs.Views.{entry_view};
 ghost use Rattle.codec.specs.Inner.Stores.{puts};
@@ -25,8 +25,7 @@ fn write(
 }
 
 // From bytes to fields.
-#[unsafe(no_mangle)]
-pub extern "C" fn threadwicket_entry_decode(bytes: &[u8], fields: &mut [u8]) -> u32
+pub fn threadwicket_entry_decode(bytes: &[u8], fields: &mut [u8]) -> u32
     ensures { ViewDecoded entry_view bytes.now fields.old result fields.new }
 {
     let read = FenceEntry::decode(bytes).number;
@@ -41,8 +40,7 @@ pub extern "C" fn threadwicket_entry_decode(bytes: &[u8], fields: &mut [u8]) -> 
 }
 
 // From fields to bytes.
-#[unsafe(no_mangle)]
-pub extern "C" fn threadwicket_entry_encode(fields: &[u8], bytes: &mut [u8]) -> u32
+pub fn threadwicket_entry_encode(fields: &[u8], bytes: &mut [u8]) -> u32
     ensures { ViewEncoded entry_view fields.now bytes.old result bytes.new }
 {
     if fields.len() != FenceEntry::LEN {

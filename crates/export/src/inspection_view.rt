@@ -1,6 +1,6 @@
 // An inspection for programs in other languages. Its fields: the flag, then those of the current record, of the mutation authority and of
 // the cookie value, which are zero with flag 0.
-ghost use Rattle.octets.specs.Words.{◌≡◌};
+ghost use Rattle.std.specs.Prelude.{◌≡◌};
 ghost use Rattle.octets.specs.Octets.{put, le_bytes};
 ghost use Rattle.export.specs.View.{sound_image, ViewDecoded, ViewEncoded};
 ghost use Rattle.export.specs.Views.{current_view, mutation_view, inspection_view};
@@ -118,8 +118,7 @@ fn write(fields: &[u8], out: &mut [u8])
 }
 
 // From bytes to fields.
-#[unsafe(no_mangle)]
-pub extern "C" fn threadwicket_inspection_decode(bytes: &[u8], fields: &mut [u8]) -> u32
+pub fn threadwicket_inspection_decode(bytes: &[u8], fields: &mut [u8]) -> u32
     ensures { ViewDecoded inspection_view bytes.now fields.old result fields.new }
 {
     let read = FenceInspection::decode(bytes).number;
@@ -141,8 +140,7 @@ pub extern "C" fn threadwicket_inspection_decode(bytes: &[u8], fields: &mut [u8]
 }
 
 // From fields to bytes.
-#[unsafe(no_mangle)]
-pub extern "C" fn threadwicket_inspection_encode(fields: &[u8], bytes: &mut [u8]) -> u32
+pub fn threadwicket_inspection_encode(fields: &[u8], bytes: &mut [u8]) -> u32
     ensures { ViewEncoded inspection_view fields.now bytes.old result bytes.new }
 {
     if fields.len() != FIELDS {

@@ -1,5 +1,5 @@
 // A key for programs in other languages. Its fields: cookie, token.
-ghost use Rattle.octets.specs.Words.{◌≡◌};
+ghost use Rattle.std.specs.Prelude.{◌≡◌};
 ghost use Rattle.export.specs.View.{sound_image, ViewDecoded, ViewEncoded};
 ghost use Rattle.export.specs.Views.{key_view};
 
@@ -20,8 +20,7 @@ fn is_sound(fields: &[u8]) -> bool
 }
 
 // From bytes to fields.
-#[unsafe(no_mangle)]
-pub extern "C" fn threadwicket_key_decode(bytes: &[u8], fields: &mut [u8]) -> u32
+pub fn threadwicket_key_decode(bytes: &[u8], fields: &mut [u8]) -> u32
     ensures { ViewDecoded key_view bytes.now fields.old result fields.new }
 {
     let read = FenceCookieKey::decode(bytes).number;
@@ -34,8 +33,7 @@ pub extern "C" fn threadwicket_key_decode(bytes: &[u8], fields: &mut [u8]) -> u3
 }
 
 // From fields to bytes.
-#[unsafe(no_mangle)]
-pub extern "C" fn threadwicket_key_encode(fields: &[u8], bytes: &mut [u8]) -> u32
+pub fn threadwicket_key_encode(fields: &[u8], bytes: &mut [u8]) -> u32
     ensures { ViewEncoded key_view fields.now bytes.old result bytes.new }
 {
     if fields.len() != FenceCookieKey::LEN {

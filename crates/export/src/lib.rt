@@ -1,6 +1,6 @@
-// The classifier, the refresh-deadline check and the seven records for programs in other languages: `rt staticlib export` writes
-// target/staticlib/libexport.a, for x86-64. A `&[u8]` passes as a pointer and a length, a reference to an array as a pointer.
-// include/threadwicket.h has the declarations for C.
+// The classifier, the refresh-deadline check and the seven records as programs in other languages call them: numbers, slices of bytes and
+// references to arrays alone. This is the library; `export_c` exports each function for C under the same name, and
+// include/threadwicket.h has the declarations.
 #![tactic(auto)]
 
 pub mod config_view;
@@ -12,7 +12,7 @@ pub mod key;
 pub mod mutation;
 mod view;
 
-ghost use Rattle.octets.specs.Words.{◌≡◌};
+ghost use Rattle.std.specs.Prelude.{◌≡◌};
 ghost use Rattle.deadline.specs.Deadline.{refresh_decision};
 ghost use Rattle.packet.specs.Reading.{classify_of};
 ghost use Rattle.export.specs.Export.{Classified};
@@ -31,8 +31,7 @@ pub const NO_ROOM: u32 = 256;
 
 // Reads a packet's source against an endpoint: 0 Protected, 1 Unrelated or 2 Indeterminate, with the count of extension headers passed in
 // `reading`. Where that is too short the answer is 256, and nothing is written.
-#[unsafe(no_mangle)]
-pub extern "C" fn threadwicket_classify_raw(
+pub fn threadwicket_classify_raw(
     packet: &[u8],
     family: u8,
     address: &Address,
@@ -59,8 +58,7 @@ pub extern "C" fn threadwicket_classify_raw(
 
 // Whether a requested deadline may take the place of the prior one: 0 PriorExpired, 1 RequestedDeadlineInvalid, 2 DeadlineRegressed or
 // 3 Apply.
-#[unsafe(no_mangle)]
-pub extern "C" fn threadwicket_refresh(observed: u64, prior: u64, requested: u64) -> u32
+pub fn threadwicket_refresh(observed: u64, prior: u64, requested: u64) -> u32
     ensures { result ≡ refresh_decision observed prior requested }
 {
     let decision = deadline::evaluate_refresh_deadlines(

@@ -1,5 +1,5 @@
 // The mutation authority for programs in other languages. Its fields: generation, claim.
-ghost use Rattle.octets.specs.Words.{◌≡◌};
+ghost use Rattle.std.specs.Prelude.{◌≡◌};
 ghost use Rattle.export.specs.View.{sound_image, ViewDecoded, ViewEncoded};
 ghost use Rattle.export.specs.Views.{mutation_view};
 
@@ -19,8 +19,7 @@ fn is_sound(fields: &[u8]) -> bool
 }
 
 // From bytes to fields.
-#[unsafe(no_mangle)]
-pub extern "C" fn threadwicket_mutation_decode(bytes: &[u8], fields: &mut [u8]) -> u32
+pub fn threadwicket_mutation_decode(bytes: &[u8], fields: &mut [u8]) -> u32
     ensures { ViewDecoded mutation_view bytes.now fields.old result fields.new }
 {
     let read = FenceMutationAuthority::decode(bytes).number;
@@ -33,8 +32,7 @@ pub extern "C" fn threadwicket_mutation_decode(bytes: &[u8], fields: &mut [u8]) 
 }
 
 // From fields to bytes.
-#[unsafe(no_mangle)]
-pub extern "C" fn threadwicket_mutation_encode(fields: &[u8], bytes: &mut [u8]) -> u32
+pub fn threadwicket_mutation_encode(fields: &[u8], bytes: &mut [u8]) -> u32
     ensures { ViewEncoded mutation_view fields.now bytes.old result bytes.new }
 {
     if fields.len() != FenceMutationAuthority::LEN {

@@ -1,6 +1,6 @@
 // What the views of the records share: the answers of a decoder into an image and of an encoder from one, and numbers moved between a
 // record's bytes and its fields.
-ghost use Rattle.octets.specs.Words.{◌≡◌, length};
+ghost use Rattle.std.specs.Prelude.{◌≡◌, length};
 ghost use Rattle.octets.specs.Octets.{octets_at, le, put, le_bytes};
 ghost use Rattle.codec.specs.Codec.{room_answer};
 ghost use Rattle.codec.specs.Head.{head_layout, head_fields};

@@ -1,5 +1,5 @@
 -- The gate's answer for programs in other languages. Assumes nothing.
-use Rattle.octets.specs.Words.{ℕ, List}
+use Rattle.std.specs.Prelude.{ℕ, List}
 use Rattle.verdict.specs.Verdict.{slot_number}
 use Rattle.gate.specs.Gate.{Answer as GateAnswer}
 use Rattle.export.specs.Export.{Lent}

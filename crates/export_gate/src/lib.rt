@@ -1,5 +1,5 @@
-// The joined gate for programs in other languages: `rt staticlib export_gate` writes target/staticlib/libexport_gate.a, for x86-64. It is
-// an archive of its own, so that the classifier is compiled into its one caller in each of the two.
+// The joined gate as programs in other languages call it: numbers, slices of bytes and a reference to an array alone. This is the library;
+// `export_gate_c` exports its function for C under the same name, and include/threadwicket.h has the declaration.
 #![tactic(auto)]
 
 ghost use Rattle.gate.specs.Gate.{given, gate_of};
@@ -13,8 +13,7 @@ pub type Address = [u8; 16];
 
 // The joined gate: the verdict's slot, or 255 for PassUnrelated, which has none, with the count of extension headers passed in `reading`.
 // Where that is too short the answer is 256, and nothing is written.
-#[unsafe(no_mangle)]
-pub extern "C" fn threadwicket_gate_raw(
+pub fn threadwicket_gate_raw(
     config: &[u8],
     attachment: u64,
     family: u8,

@@ -1,6 +1,6 @@
 -- Document 01, 'The gate's thirteen rules': what a call is given, the view of it that the rules look at, the rules in 01's order, and the
 -- answer. Assumes nothing.
-use Rattle.octets.specs.Words.{ℕ, Bool, true, cond, not, ◌&&◌, ◌||◌, List, [], ◌∷◌, length, take, eqb, leb}
+use Rattle.std.specs.Prelude.{ℕ, Bool, true, cond, not, ◌&&◌, ◌||◌, List, [], ◌∷◌, length, take, eqb, leb}
 use Rattle.octets.specs.Octets.{octets_at, same_octets}
 use Rattle.codec.specs.Codec.{Codec, decode_number, decode_value}
 use Rattle.endpoint.specs.declared.ProtectedEndpoint.{ProtectedEndpoint}

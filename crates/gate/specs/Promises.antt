@@ -1,6 +1,6 @@
 -- What is promised of the rules: the first that applies answers, one always does, and they bear 01's numbers in 01's order; and of the
 -- header count. Assumes nothing.
-use Rattle.octets.specs.Words.{ℕ, zero, suc, ◌<◌, ◌≤◌, ◌≡◌, true, false, List, [], ◌∷◌, map, length}
+use Rattle.std.specs.Prelude.{ℕ, zero, suc, ◌<◌, ◌≤◌, ◌≡◌, true, false, List, [], ◌∷◌, map, length}
 use Rattle.verdict.specs.Verdict.{slot_of}
 use Rattle.gate.specs.Gate.{Call, View, view_of, Rule, allow, rules, first_rule, answering, headers_of, gate_of}
 

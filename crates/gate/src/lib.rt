@@ -1,7 +1,7 @@
 // The joined gate: one call decides what becomes of a packet, from bytes as a hook finds them.
 #![tactic(auto)]
 
-ghost use Rattle.octets.specs.Words.{◌≡◌, not, [], ◌∷◌, eqb};
+ghost use Rattle.std.specs.Prelude.{◌≡◌, not, [], ◌∷◌, eqb};
 ghost use Rattle.packet.specs.Answers as reading;
 ghost use Rattle.records.specs.Entry.{closed};
 ghost use Rattle.gate.specs.Gate.{given, same_address, matches, stale, expired, unread, view_of, rules, first_rule, gate_of, answer_of};

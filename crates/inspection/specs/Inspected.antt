@@ -1,6 +1,6 @@
 -- Document 01, 'Record layouts': the inner entry of an inspection, a "flag 0 or 1" and a "Cookie value at 48, all zero with flag 0".
 -- Assumes nothing.
-use Rattle.octets.specs.Words.{ℕ, Bool, true, cond, ◌||◌, List, [], ◌∷◌, eqb}
+use Rattle.std.specs.Prelude.{ℕ, Bool, true, cond, ◌||◌, List, [], ◌∷◌, eqb}
 use Rattle.codec.specs.Codec.{sound}
 use Rattle.records.specs.CookieValue.{cookie_value_codec, CookieValueFormed}
 use Rattle.inspection.specs.declared.inspected.InspectedEntry.{InspectedEntry}

@@ -1,6 +1,6 @@
 -- Document 01, 'Record layouts': "Inspection, 128: "OEI1"; version 5; flag 0 or 1; 0; Current at 8; Mutation at 32; Cookie value at
 -- 48, all zero with flag 0; 88 to 127 zero." Assumes nothing.
-use Rattle.octets.specs.Words.{ℕ, List, [], ◌∷◌, ◌++◌, get_or, take, drop, eqb}
+use Rattle.std.specs.Prelude.{ℕ, List, [], ◌∷◌, ◌++◌, get_or, take, drop, eqb}
 use Rattle.octets.specs.Octets.{all_zero}
 use Rattle.codec.specs.Layout.{Field, little}
 use Rattle.codec.specs.Codec.{Test, test, shifted, given, Codec}

@@ -1,5 +1,5 @@
 -- What is promised of an inspection: the laws of `codec`, and that it is sound where its parts are. Assumes nothing.
-use Rattle.octets.specs.Words.{◌≡◌, ◌&&◌}
+use Rattle.std.specs.Prelude.{◌≡◌, ◌&&◌}
 use Rattle.codec.specs.Codec.{sound}
 use Rattle.codec.specs.Promises.{Laws, InOrder}
 use Rattle.authority.specs.Current.{current_codec}

@@ -1,5 +1,5 @@
 // The inner entry of an inspection: a flag, and a cookie value or zeros in its place.
-ghost use Rattle.octets.specs.Words.{◌≡◌};
+ghost use Rattle.std.specs.Prelude.{◌≡◌};
 ghost use Rattle.octets.specs.Octets.{put, le_bytes};
 ghost use Rattle.codec.specs.Layout.{laid};
 ghost use Rattle.records.specs.CookieValue.{cookie_value_codec};

@@ -4,7 +4,7 @@
 
 pub mod inspected;
 
-ghost use Rattle.octets.specs.Words.{◌≡◌};
+ghost use Rattle.std.specs.Prelude.{◌≡◌};
 ghost use Rattle.codec.specs.Codec.{passes, Made, Decoded, Encoded, sound};
 ghost use Rattle.codec.specs.Head.{head_numbers};
 ghost use Rattle.inspection.specs.Inspected.{part_numbers};

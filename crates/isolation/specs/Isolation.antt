@@ -3,7 +3,7 @@
 -- is at no named place; of the table the records of other sockets and of other tokens, their number and their order, and later records
 -- under the same key. Then the two calls have one view, so that rule, verdict and header count are the same. It rests on what the
 -- classifier's answer may depend on. Assumes nothing.
-use Rattle.octets.specs.Words.{ℕ, ◌≡◌, true, List, length, take}
+use Rattle.std.specs.Prelude.{ℕ, ◌≡◌, true, List, length, take}
 use Rattle.octets.specs.Lists.{bytes_at}
 use Rattle.endpoint.specs.declared.ProtectedEndpoint.{ProtectedEndpoint}
 use Rattle.packet.specs.Reading.{classify_of}

@@ -1,6 +1,6 @@
 -- Document 01, 'Places named for demand 3', pinned on packets: their places are these, and none of them can be left out. Proved in
 -- proofs/Pinned.antt. Assumes nothing.
-use Rattle.octets.specs.Words.{ℕ, ◌≡◌, List, [], ◌∷◌, ◌++◌, map, replicate, length, set}
+use Rattle.std.specs.Prelude.{ℕ, ◌≡◌, List, [], ◌∷◌, ◌++◌, map, replicate, length, set}
 use Rattle.octets.specs.Lists.{span}
 use Rattle.endpoint.specs.declared.ProtectedEndpoint.{ProtectedEndpoint}
 use Rattle.packet.specs.Reading.{classify_of}

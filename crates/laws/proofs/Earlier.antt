@@ -100,6 +100,7 @@ module _ (s t : List ℕ) where
   at-frame p frame.Bad e h = rw (feed-at s p frame.Bad e) ((feed_at (s ++ t) p).calls, refl)
 
   begins-at : (n : ℕ) (p : Place) → left_at s p < n → Later p
+  begins-at zero p h = elim h [ ]
   begins-at (suc n) p h = at-frame p (frame_at s p.at) refl (λ a l. begins-at n a (omega arith))
 
   begins : Begins (bundle_of s).calls (bundle_of (s ++ t)).calls

@@ -1,5 +1,5 @@
 -- Document 01's case, and bundles at the edges of the frames, each list under one statement. Assumes nothing.
-use Rattle.octets.specs.Words.{ℕ, ◌≡◌, List, [], ◌∷◌, ◌++◌, map, length, replicate}
+use Rattle.std.specs.Prelude.{ℕ, ◌≡◌, List, [], ◌∷◌, ◌++◌, map, length, replicate}
 use Rattle.octets.specs.Octets.{le_bytes, be_bytes}
 use Rattle.packet.specs.Example.{A}
 use Rattle.text.specs.Text.{ascii}

@@ -1,6 +1,6 @@
 -- Calls, and what answers them: one for each of the thirteen rules, some at the rules' edges, two that demand 3 is about; and a gate that
 -- drops all, which meets demand 3 and is not this gate. Assumes nothing.
-use Rattle.octets.specs.Words.{ℕ, ◌≡◌, true, false, List, [], ◌∷◌, ◌++◌, map, replicate, set}
+use Rattle.std.specs.Prelude.{ℕ, ◌≡◌, true, false, List, [], ◌∷◌, ◌++◌, map, replicate, set}
 use Rattle.codec.specs.Codec.{bytes}
 use Rattle.endpoint.specs.declared.ProtectedEndpoint.{ProtectedEndpoint}
 use Rattle.config.specs.Config.{config, config_codec}

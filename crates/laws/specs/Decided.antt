@@ -1,6 +1,6 @@
 -- What `decide_egress` is given when the records decode: the packet's context and the authority's snapshot of a call (lib.rs,
 -- `PacketFenceContext` and `FenceAuthoritySnapshot`). Assumes nothing.
-use Rattle.octets.specs.Words.{ℕ, ◌≡◌, Bool, false, cond, [], ◌∷◌, length, eqb}
+use Rattle.std.specs.Prelude.{ℕ, ◌≡◌, Bool, false, cond, [], ◌∷◌, length, eqb}
 use Rattle.records.specs.CookieValue.{entry_of}
 use Rattle.octets.specs.Lists.{among}
 use Rattle.packet.specs.Answers.{disposition_from}

@@ -1,5 +1,5 @@
 -- Document 01, 'Examples to prove': one list under one statement. The endpoint is 192.0.2.10:4500. Assumes nothing.
-use Rattle.octets.specs.Words.{ℕ, ◌≡◌, Bool, true, false, not, ◌&&◌, List, [], ◌∷◌, replicate, set, eqb}
+use Rattle.std.specs.Prelude.{ℕ, ◌≡◌, Bool, true, false, not, ◌&&◌, List, [], ◌∷◌, replicate, set, eqb}
 use Rattle.codec.specs.Codec.{fields_number, decode_number, decode_value}
 use Rattle.deadline.specs.Deadline.{decision_number, refresh_decision}
 use Rattle.deadline.specs.declared.RefreshDeadlineDecision.{RefreshDeadlineDecision}

@@ -1,6 +1,6 @@
 -- There and back, from the contracts alone: what is promised of the two functions of every view, and of each of the seven by its name.
 -- Assumes nothing.
-use Rattle.octets.specs.Words.{ℕ, ◌≤◌, ◌≡◌, List, ◌++◌, length, take, drop}
+use Rattle.std.specs.Prelude.{ℕ, ◌≤◌, ◌≡◌, List, ◌++◌, length, take, drop}
 use Rattle.octets.specs.Octets.{Bytes}
 use Rattle.codec.specs.Layout.{size}
 use Rattle.export.specs.View.{View, image_size, ViewDecoded, ViewEncoded}

@@ -1,5 +1,5 @@
 -- What is promised of listings: a line for each packet, earlier lines stay, isolation. Assumes nothing.
-use Rattle.octets.specs.Words.{ℕ, ◌+◌, ◌≤◌, ◌≡◌, List, [], ◌∷◌, ◌++◌, length, take}
+use Rattle.std.specs.Prelude.{ℕ, ◌+◌, ◌≤◌, ◌≡◌, List, [], ◌∷◌, ◌++◌, length, take}
 use Rattle.text.specs.Promises.{newlines}
 use Rattle.gate.specs.Gate.{Call}
 use Rattle.isolation.specs.Isolation.{Alike}

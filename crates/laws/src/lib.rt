@@ -40,4 +40,3 @@
 // - Examples. `examples-hold` in `laws/proofs/Examples.antt`, stated in `laws/specs/Examples.antt`: the list that document 01 asks to be
 //   proved.
 #![tactic(auto)]
-

@@ -1,5 +1,5 @@
 -- Document 01, 'The bundle and its listing': the listing of a bundle. Assumes nothing.
-use Rattle.octets.specs.Words.{ℕ, ◌+◌, ◌≤◌, ◌≡◌, Bool, true, false, cond, List, [], ◌∷◌, ◌++◌, length, drop, ltb, leb}
+use Rattle.std.specs.Prelude.{ℕ, ◌+◌, ◌≤◌, ◌≡◌, Bool, true, false, cond, List, [], ◌∷◌, ◌++◌, length, drop, ltb, leb}
 use Rattle.text.specs.Text.{ascii, decimal, numbered}
 use Rattle.verdict.specs.Verdict.{slot_of}
 use Rattle.verdict.specs.declared.FenceVerdict.{FenceVerdict}

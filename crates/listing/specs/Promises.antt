@@ -1,5 +1,5 @@
 -- How long a listing is, and so what room suffices for one. The other laws of listings are stated in `laws`. Assumes nothing.
-use Rattle.octets.specs.Words.{ℕ, ◌≤◌, ◌≡◌, List, length}
+use Rattle.std.specs.Prelude.{ℕ, ◌≤◌, ◌≡◌, List, length}
 use Rattle.listing.specs.Listing.{listing, whole, answer_of}
 
 -- no listing is longer

@@ -3,7 +3,7 @@
 
 mod lines;
 
-ghost use Rattle.octets.specs.Words.{◌≤◌, ◌≡◌, length, leb};
+ghost use Rattle.std.specs.Prelude.{◌≤◌, ◌≡◌, length, leb};
 ghost use Rattle.text.specs.Text.{Wrote};
 ghost use Rattle.bundle.specs.Frames.{bundle_of};
 ghost use Rattle.listing.specs.Listing.{ends_well, sheet, verdict_line, whole, listing, Lists};

@@ -1,5 +1,5 @@
 // The lines of a listing, each written at a place of the output.
-ghost use Rattle.octets.specs.Words.{◌++◌};
+ghost use Rattle.std.specs.Prelude.{◌++◌};
 ghost use Rattle.text.specs.Text.{ascii, Wrote};
 ghost use Rattle.listing.specs.Listing.{name_of, slot_text, line};
 

@@ -1,5 +1,5 @@
 -- Uniqueness of an answer, from a contract alone (document 01, 'How tight the contracts are'). Assumes nothing.
-use Rattle.octets.specs.Words.{ℕ, ◌≡◌, List}
+use Rattle.std.specs.Prelude.{ℕ, ◌≡◌, List}
 use contract.Lifetimes.{Lfts}
 use borrow.Fn.Kind.{ParamKind, ResultKind}
 use borrow.Fn.Kinds.{res_t, Out, ended_of, Dens}

@@ -1,5 +1,5 @@
 -- Words on lists of numbers that the definitions above share. Assumes nothing.
-use Rattle.octets.specs.Words.{ℕ, zero, suc, ◌+◌, Bool, false, cond, ◌||◌, List, [], ◌∷◌, map, get_or, eqb, ltb}
+use Rattle.std.specs.Prelude.{ℕ, zero, suc, ◌+◌, Bool, false, cond, ◌||◌, List, [], ◌∷◌, map, get_or, eqb, ltb}
 
 -- n is one of the numbers
 abbrev pub among : ℕ → List ℕ → Bool

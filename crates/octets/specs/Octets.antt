@@ -1,6 +1,6 @@
 -- Octets at a place of a slice, the number that octets spell, and the octets of a number, in both orders (RFC 1700, 'Data Notations':
 -- network order has the most significant octet first). Assumes nothing.
-use Rattle.octets.specs.Words.{ℕ, zero, suc, ◌+◌, ◌*◌, ◌/◌, ◌%◌, ◌<◌, Bool, true, false, ◌&&◌, List, [], ◌∷◌, reverse, get_or, set, eqb}
+use Rattle.std.specs.Prelude.{ℕ, zero, suc, ◌+◌, ◌*◌, ◌/◌, ◌%◌, ◌<◌, Bool, true, false, ◌&&◌, List, [], ◌∷◌, reverse, get_or, set, eqb}
 
 -- every element is an octet
 abbrev pub Bytes : List ℕ → Type 0

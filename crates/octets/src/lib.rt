@@ -4,7 +4,7 @@
 // fact to show. A caller that has tested the length first pays for no second test: the compiler folds them.
 #![tactic(auto)]
 
-ghost use Rattle.octets.specs.Words.{◌+◌, ◌<◌, ◌≤◌, ◌≡◌, length, leb};
+ghost use Rattle.std.specs.Prelude.{◌+◌, ◌<◌, ◌≤◌, ◌≡◌, length, leb};
 ghost use Rattle.octets.specs.Octets.{octets_at, le, be, put, le_bytes, be_bytes, all_zero, same_octets};
 
 // The octet at a place.

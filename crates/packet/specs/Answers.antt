@@ -1,6 +1,6 @@
 -- What the answer's types stand for: a disposition as the definitions have it, its number, and the answer of the definitions. Assumes
 -- nothing.
-use Rattle.octets.specs.Words.{ℕ, Bool, true, false, cond, eqb}
+use Rattle.std.specs.Prelude.{ℕ, Bool, true, false, cond, eqb}
 use Rattle.packet.specs.Reading.{Disposition, protected, unrelated, indeterminate, Answer}
 use Rattle.packet.specs.declared.PacketEndpointDisposition.{PacketEndpointDisposition}
 use Rattle.packet.specs.declared.PacketEndpointDisposition.TheVariants.{Protected, Unrelated, Indeterminate}

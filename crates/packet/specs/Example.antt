@@ -1,5 +1,5 @@
 -- Document 01, 'Examples to prove': the endpoint and packet A of its examples. Assumes nothing.
-use Rattle.octets.specs.Words.{ℕ, List, [], ◌∷◌, replicate}
+use Rattle.std.specs.Prelude.{ℕ, List, [], ◌∷◌, replicate}
 use Rattle.endpoint.specs.declared.ProtectedEndpoint.{ProtectedEndpoint}
 
 -- 192.0.2.10:4500, and 01's packet A from there

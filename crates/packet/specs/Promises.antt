@@ -1,5 +1,5 @@
 -- What is claimed of reading a packet beside the contracts, from document 01. Each claim is proved in proofs/. Assumes nothing.
-use Rattle.octets.specs.Words.{ℕ, suc, ◌<◌, ◌≤◌, ◌≡◌, cond, List, [], ◌∷◌}
+use Rattle.std.specs.Prelude.{ℕ, suc, ◌<◌, ◌≤◌, ◌≡◌, cond, List, [], ◌∷◌}
 use Rattle.octets.specs.Lists.{among}
 use Rattle.endpoint.specs.declared.ProtectedEndpoint.{ProtectedEndpoint}
 use Rattle.packet.specs.Reading.{Disposition, settled, stop, sort_of, udp_of, walk_of, ipv4_of, ipv6_head, ipv6_of, classify_of}

@@ -1,5 +1,5 @@
 -- RFC 4302, section 2.2: the Authentication Header's second byte counts 4-byte words, less 2. Assumes nothing.
-use Rattle.octets.specs.Words.{ℕ, ◌+◌, ◌*◌, List}
+use Rattle.std.specs.Prelude.{ℕ, ◌+◌, ◌*◌, List}
 use Rattle.packet.specs.Rfc8200.{length_byte}
 
 abbrev pub authentication_length : List ℕ → ℕ → ℕ

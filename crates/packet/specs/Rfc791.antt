@@ -1,5 +1,5 @@
 -- RFC 791, section 3.1: the fields of the IPv4 header that matter here, each by its place in the figure. Assumes nothing.
-use Rattle.octets.specs.Words.{ℕ, ◌*◌, ◌/◌, ◌%◌, Bool, List, eqb}
+use Rattle.std.specs.Prelude.{ℕ, ◌*◌, ◌/◌, ◌%◌, Bool, List, eqb}
 use Rattle.std.specs.Int.Bits.{bit_and}
 use Rattle.octets.specs.Octets.{octets_at, le, be}
 

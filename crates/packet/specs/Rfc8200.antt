@@ -1,5 +1,5 @@
 -- RFC 8200: the fixed IPv6 header (section 3) and the extension headers (section 4), by their figures. Assumes nothing.
-use Rattle.octets.specs.Words.{ℕ, ◌+◌, ◌*◌, List}
+use Rattle.std.specs.Prelude.{ℕ, ◌+◌, ◌*◌, List}
 use Rattle.octets.specs.Octets.{octets_at, le, be}
 
 abbrev pub payload_length : List ℕ → ℕ

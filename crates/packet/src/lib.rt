@@ -4,7 +4,7 @@
 // comes to it, after the test of the packet's length: the readers' own tests then cost nothing.
 #![tactic(auto)]
 
-ghost use Rattle.octets.specs.Words.{◌+◌, ◌*◌, ◌≤◌, ◌≡◌, cond, ◌||◌, eqb, ltb};
+ghost use Rattle.std.specs.Prelude.{◌+◌, ◌*◌, ◌≤◌, ◌≡◌, cond, ◌||◌, eqb, ltb};
 ghost use Rattle.octets.specs.Octets.{octets_at, same_octets};
 ghost use Rattle.packet.specs.Rfc791.{source as source4};
 ghost use Rattle.packet.specs.Rfc8200.{source as source6, length_byte};

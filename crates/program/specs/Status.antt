@@ -1,5 +1,5 @@
 -- How a program ended, and the status that says so (README, 'What the status says'). Assumes nothing.
-use Rattle.octets.specs.Words.{ℕ, ◌≡◌, Bool, true, false, cond}
+use Rattle.std.specs.Prelude.{ℕ, ◌≡◌, Bool, true, false, cond}
 use Rattle.program.specs.declared.Outcome.{Outcome}
 use Rattle.program.specs.declared.Outcome.TheVariants.{Answered, TurnedDown, Failed}
 

@@ -3,7 +3,7 @@
 // bytes lie and how many there are, and which status an outcome is.
 #![tactic(auto)]
 
-ghost use Rattle.octets.specs.Words.{◌≡◌, ◌≤◌, length};
+ghost use Rattle.std.specs.Prelude.{◌≡◌, ◌≤◌, length};
 ghost use Rattle.program.specs.Reading.{Told};
 ghost use Rattle.program.specs.Status.{digit_of, failed, of_whole};
 

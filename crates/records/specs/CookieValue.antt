@@ -1,6 +1,7 @@
 -- Document 01, 'Record layouts': "Cookie value, 40: four zeros, control, cookie (not 0), then token, deadline, epoch as in Entry."
 -- Assumes nothing.
-use Rattle.codec.specs.Words.{ℕ, ◌^◌, ◌<◌, Bool, not, ◌&&◌, List, [], ◌∷◌, get_or, eqb, little, test, Codec, sound}
+use Rattle.std.specs.Prelude.{ℕ, ◌^◌, ◌<◌, Bool, not, ◌&&◌, List, [], ◌∷◌, get_or, eqb}
+use Rattle.codec.specs.Words.{little, test, Codec, sound}
 use Rattle.records.specs.declared.entry.FenceEntryState.{FenceEntryState}
 use Rattle.records.specs.declared.entry.FenceEntryState.TheVariants.{InitialClosed}
 use Rattle.records.specs.declared.entry.FenceEntry.{FenceEntry}

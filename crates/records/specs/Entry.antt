@@ -1,5 +1,6 @@
 -- Document 01, 'Record layouts': "Entry, 32: four zeros, control, token, deadline, epoch." Assumes nothing.
-use Rattle.codec.specs.Words.{ℕ, ◌%◌, ◌^◌, ◌<◌, Bool, true, false, cond, not, [], ◌∷◌, get_or, eqb, among, little, test, Codec}
+use Rattle.std.specs.Prelude.{ℕ, ◌%◌, ◌^◌, ◌<◌, Bool, true, false, cond, not, [], ◌∷◌, get_or, eqb}
+use Rattle.codec.specs.Words.{among, little, test, Codec}
 use Rattle.records.specs.declared.entry.FenceEntryState.{FenceEntryState}
 use Rattle.records.specs.declared.entry.FenceEntryState.TheVariants.{InitialClosed, Active, TerminalClosed, Reclaiming}
 use Rattle.records.specs.declared.entry.FenceEntry.{FenceEntry}

@@ -1,5 +1,6 @@
 -- Document 01, 'Record layouts': "Key, 16: cookie, token, neither 0. No parity is asked." Assumes nothing.
-use Rattle.codec.specs.Words.{◌^◌, ◌<◌, not, [], ◌∷◌, get_or, eqb, little, test, Codec}
+use Rattle.std.specs.Prelude.{◌^◌, ◌<◌, not, [], ◌∷◌, get_or, eqb}
+use Rattle.codec.specs.Words.{little, test, Codec}
 use Rattle.records.specs.declared.key.FenceCookieKey.{FenceCookieKey}
 
 abbrev pub key_codec : Codec FenceCookieKey

@@ -1,5 +1,6 @@
 // A cookie value, 40 bytes: the key of a registered socket and the state of its entry, the token they share held once.
-ghost use Rattle.codec.specs.Words.{◌≡◌, [], ◌∷◌, put, asking, ok, bytes, Built, Decoded, Encoded, sound};
+ghost use Rattle.std.specs.Prelude.{◌≡◌, [], ◌∷◌};
+ghost use Rattle.codec.specs.Words.{put, asking, ok, bytes, Built, Decoded, Encoded, sound};
 ghost use Rattle.records.specs.CookieValue.{cookie_value, cookie_value_codec, key_of, entry_of, agreeing, pair_fields};
 
 use crate::entry::{FenceEntry, FenceEntryState};

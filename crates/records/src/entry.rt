@@ -1,5 +1,6 @@
 // The state of one registered socket, 32 bytes.
-ghost use Rattle.codec.specs.Words.{◌≡◌, ◌&&◌, [], ◌∷◌, put, ok, bytes, Built, Decoded, Encoded, sound};
+ghost use Rattle.std.specs.Prelude.{◌≡◌, ◌&&◌, [], ◌∷◌};
+ghost use Rattle.codec.specs.Words.{put, ok, bytes, Built, Decoded, Encoded, sound};
 ghost use Rattle.records.specs.Entry.{control_of, state_from, state_listed, odd_token, deadline_fits, epoch_fits, entry, entry_codec, closed, terminal, reclaiming};
 ghost use Rattle.records.specs.declared.entry.FenceEntryState.TheVariants.{InitialClosed, Active, TerminalClosed, Reclaiming};
 

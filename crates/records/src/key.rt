@@ -1,5 +1,6 @@
 // The key of a cookie value, 16 bytes: one registered socket's lifecycle.
-ghost use Rattle.codec.specs.Words.{◌≡◌, [], ◌∷◌, put, bytes, Built, Decoded, Encoded, sound};
+ghost use Rattle.std.specs.Prelude.{◌≡◌, [], ◌∷◌};
+ghost use Rattle.codec.specs.Words.{put, bytes, Built, Decoded, Encoded, sound};
 ghost use Rattle.records.specs.Key.{key_codec};
 
 use units::{DurableFenceToken, SocketCookie};

@@ -5,15 +5,15 @@
 #![tactic(auto)]
 
 use deadline::RefreshDeadlineDecision;
-use libc::STDIN_FILENO;
-use program::{Outcome, Written};
+use program::{Outcome, Streams, Written};
+use std::io::{Print, Read};
 use units::BootNs;
 
 // More reads than any input takes: so the loop over them is seen to end.
 const READS: u64 = 1_000_000_000_000_000_000;
 
 // As much of a line as has come.
-#[derive(Drop)]
+#[derive(Clone, Copy)]
 struct Line {
     // How many numbers are complete; 4 where there is something that does not belong to three numbers.
     numbers: u8,
@@ -40,7 +40,7 @@ const EMPTY: Line = Line {
 };
 
 // The lines so far: the one that is being read, its number, and whether there is nothing more to do, and then how it ended.
-#[derive(Drop)]
+#[derive(Clone, Copy)]
 struct Lines {
     line: Line,
     number: u64,
@@ -48,18 +48,24 @@ struct Lines {
     failed: bool,
 }
 
-fn main() {
+fn main(rt: HostRuntime) {
+    let to = Streams {
+        out: rt.stdout(),
+        err: rt.stderr(),
+    };
     if program::begins(
+        &rt,
+        to,
         b"refresh",
         b"usage: refresh < LINES\n\nSays of each line OBSERVED PRIOR REQUESTED, three times of the boot clock in nanoseconds with blanks between them, whether a\nrefresh of the prior deadline to the requested one is applied: Apply, PriorExpired, RequestedDeadlineInvalid or\nDeadlineRegressed. It answers line by line.\n\nStatus, as the script threadwicket gives it: 0 where every line was answered; 2 where a line is not three numbers below 2^64,\nor the input could not be read or an answer not be written, which a line on descriptor 2 says. The program by itself has no\nstatus.\n",
         b"refresh: it takes no argument: lines of three times come on standard input (refresh --help says more)\n",
     ) {
-        program::end(answer_input());
+        program::end(&rt, answer_input(&mut rt.stdin(), to));
     }
 }
 
 // Reads what has come and answers its lines, until the input ends.
-fn answer_input() -> Outcome {
+fn answer_input<R: Read>(from: &mut R, to: Streams) -> Outcome {
     let mut space = [0u8; 4096];
     let mut lines = Lines {
         line: EMPTY,
@@ -69,21 +75,21 @@ fn answer_input() -> Outcome {
     };
     let mut reads: u64 = 0;
     while reads < READS {
-        let some = program::read_some(STDIN_FILENO, &mut space);
+        let some = program::read_some(from, &mut space);
         if some.failed {
-            return program::complain(b"refresh: the input could not be read\n");
+            return program::complain(to, b"refresh: the input could not be read\n");
         }
         let n = some.length;
         if n == 0 {
-            return last_line(lines);
+            return last_line(lines, to);
         }
-        lines = take(lines, &space[0..n]);
+        lines = take(lines, &space[0..n], to);
         if lines.over {
             return ending(lines.failed);
         }
         reads += 1;
     }
-    program::complain(b"refresh: the input does not end\n")
+    program::complain(to, b"refresh: the input does not end\n")
 }
 
 fn ending(failed: bool) -> Outcome {
@@ -95,21 +101,21 @@ fn ending(failed: bool) -> Outcome {
 }
 
 // The last line may lack its newline.
-fn last_line(lines: Lines) -> Outcome {
+fn last_line(lines: Lines, to: Streams) -> Outcome {
     let line = lines.line;
     if !line.begun {
         return Outcome::Answered;
     }
-    let last = end_line(lines);
+    let last = end_line(lines, to);
     ending(last.failed)
 }
 
 // Takes the bytes that have come.
-fn take(lines: Lines, bytes: &[u8]) -> Lines {
+fn take(lines: Lines, bytes: &[u8], to: Streams) -> Lines {
     let mut now = lines;
     let mut at = 0;
     while at < bytes.len() {
-        now = take_byte(now, bytes[at]);
+        now = take_byte(now, bytes[at], to);
         if now.over {
             return now;
         }
@@ -118,14 +124,14 @@ fn take(lines: Lines, bytes: &[u8]) -> Lines {
     now
 }
 
-fn take_byte(lines: Lines, byte: u8) -> Lines {
+fn take_byte(lines: Lines, byte: u8, to: Streams) -> Lines {
     if byte == b'\n' {
-        return end_line(lines);
+        return end_line(lines, to);
     }
     let line = put(lines.line, byte);
     let number = lines.number;
     if line.numbers > 3 {
-        return refuse_line(line, number);
+        return refuse_line(line, number, to);
     }
     Lines {
         line,
@@ -200,22 +206,22 @@ fn end_number(line: Line) -> Line {
 }
 
 // Answers a line that has come, and begins the next one.
-fn end_line(lines: Lines) -> Lines {
+fn end_line(lines: Lines, to: Streams) -> Lines {
     let line = end_number(lines.line);
     let number = lines.number;
     if line.numbers != 3 {
-        return refuse_line(line, number);
+        return refuse_line(line, number, to);
     }
     let decision = deadline::evaluate_refresh_deadlines(
         BootNs(line.observed),
         BootNs(line.prior),
         BootNs(line.requested),
     );
-    let written = print_decision(decision);
+    let written = print_decision(decision, to);
     match written {
         Written::All => Lines {
             line: EMPTY,
-            number: std::num::wrapping_add_u64(number, 1),
+            number: number.wrapping_add(1),
             over: false,
             failed: false,
         },
@@ -235,10 +241,13 @@ fn end_line(lines: Lines) -> Lines {
 }
 
 // A line that is not three numbers, as soon as that is seen: nothing after it is read.
-fn refuse_line(line: Line, number: u64) -> Lines {
-    program::complain(b"refresh: line ");
-    io::print_decimal(libc::STDERR_FILENO, number);
-    program::complain(b" is not three numbers below 2^64: OBSERVED PRIOR REQUESTED\n");
+fn refuse_line(line: Line, number: u64, to: Streams) -> Lines {
+    program::complain(to, b"refresh: line ");
+    let _ = to.err.print(number);
+    program::complain(
+        to,
+        b" is not three numbers below 2^64: OBSERVED PRIOR REQUESTED\n",
+    );
     Lines {
         line,
         number,
@@ -247,15 +256,18 @@ fn refuse_line(line: Line, number: u64) -> Lines {
     }
 }
 
-fn print_decision(decision: RefreshDeadlineDecision) -> Written {
+fn print_decision(decision: RefreshDeadlineDecision, to: Streams) -> Written {
     match decision {
-        RefreshDeadlineDecision::PriorExpired => answer(b"PriorExpired\n"),
-        RefreshDeadlineDecision::RequestedDeadlineInvalid => answer(b"RequestedDeadlineInvalid\n"),
-        RefreshDeadlineDecision::DeadlineRegressed => answer(b"DeadlineRegressed\n"),
-        RefreshDeadlineDecision::Apply => answer(b"Apply\n"),
+        RefreshDeadlineDecision::PriorExpired => answer(to, b"PriorExpired\n"),
+        RefreshDeadlineDecision::RequestedDeadlineInvalid => answer(
+            to,
+            b"RequestedDeadlineInvalid\n",
+        ),
+        RefreshDeadlineDecision::DeadlineRegressed => answer(to, b"DeadlineRegressed\n"),
+        RefreshDeadlineDecision::Apply => answer(to, b"Apply\n"),
     }
 }
 
-fn answer(text: &[u8]) -> Written {
-    program::answer(text, b"refresh: the answer could not be written\n")
+fn answer(to: Streams, text: &[u8]) -> Written {
+    program::answer(to, text, b"refresh: the answer could not be written\n")
 }

@@ -1,5 +1,5 @@
 -- A table of cookie values, and its records under a key (document 01, 'The gate's thirteen rules'). Assumes nothing.
-use Rattle.octets.specs.Words.{ℕ, zero, suc, ◌+◌, ◌/◌, ◌%◌, ◌≡◌, Bool, cond, ◌&&◌, List, [], ◌∷◌, length, take, drop, eqb, leb}
+use Rattle.std.specs.Prelude.{ℕ, zero, suc, ◌+◌, ◌/◌, ◌%◌, ◌≡◌, Bool, cond, ◌&&◌, List, [], ◌∷◌, length, take, drop, eqb, leb}
 use Rattle.octets.specs.Octets.{octets_at, le}
 use Rattle.std.specs.Borrow.{Bor}
 

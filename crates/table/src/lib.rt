@@ -1,7 +1,7 @@
 // A table of cookie values as a controller writes it, one record after the other, and the search in it.
 #![tactic(auto)]
 
-ghost use Rattle.octets.specs.Words.{◌+◌, ◌≤◌, ◌<◌, ◌≡◌, length};
+ghost use Rattle.std.specs.Prelude.{◌+◌, ◌≤◌, ◌<◌, ◌≡◌, length};
 ghost use Rattle.table.specs.Table.{admissible, is_under, FirstUnder};
 ghost use Rattle.table.specs.Inner.Search.{FirstFrom};
 

@@ -1,5 +1,5 @@
 -- What is proved of text. Assumes nothing.
-use Rattle.octets.specs.Words.{ℕ, suc, ◌+◌, ◌-◌, ◌*◌, ◌^◌, ◌<◌, ◌≤◌, ◌≡◌, cond, List, [], ◌∷◌, ◌++◌, length, eqb}
+use Rattle.std.specs.Prelude.{ℕ, suc, ◌+◌, ◌-◌, ◌*◌, ◌^◌, ◌<◌, ◌≤◌, ◌≡◌, cond, List, [], ◌∷◌, ◌++◌, length, eqb}
 use Rattle.text.specs.Text.{decimal, last_place, after, Wrote}
 
 -- ---- places

@@ -1,5 +1,5 @@
 -- Text as bytes: ASCII, and numbers in decimal. Then text written at a place of a buffer. Assumes nothing.
-use Rattle.octets.specs.Words.{ℕ, zero, suc, ◌+◌, ◌/◌, ◌%◌, ◌≡◌, cond, List, [], ◌∷◌, ◌++◌, length, ltb}
+use Rattle.std.specs.Prelude.{ℕ, zero, suc, ◌+◌, ◌/◌, ◌%◌, ◌≡◌, cond, List, [], ◌∷◌, ◌++◌, length, ltb}
 use Rattle.octets.specs.Octets.{put}
 use Prim.Native.String.{String, [] as none, ◌∷◌ as ◌then◌}
 use Prim.Native.Char.{code}

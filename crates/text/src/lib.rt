@@ -2,7 +2,7 @@
 // counted all the same, so the same functions write a text and measure it. Each answers the place after what it wrote.
 #![tactic(auto)]
 
-ghost use Rattle.octets.specs.Words.{◌≤◌, ◌≡◌, [], ◌∷◌, length, drop};
+ghost use Rattle.std.specs.Prelude.{◌≤◌, ◌≡◌, [], ◌∷◌, length, drop};
 ghost use Rattle.octets.specs.Octets.{put};
 ghost use Rattle.text.specs.Text.{decimal, numbered, after, Wrote};
 

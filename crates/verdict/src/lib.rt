@@ -1,7 +1,7 @@
 // The egress verdict: what becomes of a packet, once it is known whether it comes from the protected endpoint and under which authority.
 #![tactic(auto)]
 
-ghost use Rattle.octets.specs.Words.{◌≡◌};
+ghost use Rattle.std.specs.Prelude.{◌≡◌};
 ghost use Rattle.verdict.specs.Verdict.{slot_of, slot_numbers, slot_number, dropped, stale_authority, entry_verdict, protected_verdict, egress_verdict};
 
 use packet::PacketEndpointDisposition;

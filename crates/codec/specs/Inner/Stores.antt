@@ -1,6 +1,6 @@
 -- A layout stored field by field, which the functions inside a codec are held to. What a codec promises does not rest on it: the octets
 -- that stand in the end are those of `laid` (`puts-laid`). Assumes nothing.
-use Rattle.octets.specs.Words.{ℕ, ◌+◌, List, [], ◌∷◌}
+use Rattle.std.specs.Prelude.{ℕ, ◌+◌, List, [], ◌∷◌}
 use Rattle.octets.specs.Octets.{put}
 use Rattle.codec.specs.Layout.{Field, width, bytes_of}
 

@@ -1,6 +1,6 @@
 -- What a function inside the configuration's decoder is held to: the rule on the fields that are no part of the endpoint, which is asked
 -- first. That the whole rule is this one and the endpoint's is a promise (`ConfigSound`). Assumes nothing.
-use Rattle.octets.specs.Words.{ℕ, Bool, not, ◌&&◌, eqb}
+use Rattle.std.specs.Prelude.{ℕ, Bool, not, ◌&&◌, eqb}
 use Rattle.config.specs.Config.{config_mark, version_listed, capacity_fits}
 
 -- of mark, version, the zero after the family, the two after the port, capacity, root cgroup

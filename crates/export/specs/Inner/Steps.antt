@@ -1,6 +1,6 @@
 -- What the functions inside a view are held to: the answer for an image, a layout stored field by field, and the parts of an inspection.
 -- Assumes nothing.
-use Rattle.octets.specs.Words.{ℕ, ◌≡◌, Bool, cond, ◌&&◌, List, length, eqb}
+use Rattle.std.specs.Prelude.{ℕ, ◌≡◌, Bool, cond, ◌&&◌, List, length, eqb}
 use Rattle.octets.specs.Octets.{all_zero}
 use Rattle.codec.specs.Layout.{fields_at}
 use Rattle.codec.specs.Inner.Stores.{puts}

@@ -1,6 +1,6 @@
 -- The parts of the gate that its inner functions are held to: the packet's source, the record that is sought, a
 -- rule by its number, and what the later rules look at. 01's rules are in `Gate` and do not rest on this. Assumes nothing.
-use Rattle.octets.specs.Words.{ℕ, ◌≡◌, true, cond, List, [], ◌∷◌, eqb}
+use Rattle.std.specs.Prelude.{ℕ, ◌≡◌, true, cond, List, [], ◌∷◌, eqb}
 use Rattle.endpoint.specs.declared.ProtectedEndpoint.{ProtectedEndpoint}
 use Rattle.packet.specs.Reading.{Answer as Reading, classify_of}
 use Rattle.packet.specs.Answers as packet

@@ -1,6 +1,6 @@
 -- What the reader of an inner entry is held to: of a flag that is listed and the forty octets in the entry's place, whether they are taken,
 -- and the entry. Assumes nothing.
-use Rattle.octets.specs.Words.{ℕ, Bool, cond, List, eqb}
+use Rattle.std.specs.Prelude.{ℕ, Bool, cond, List, eqb}
 use Rattle.octets.specs.Octets.{octets_at, all_zero}
 use Rattle.codec.specs.Codec.{decode_number, decode_value}
 use Rattle.records.specs.CookieValue.{cookie_value_codec}

@@ -1,6 +1,6 @@
 -- What the inner functions of `packet` are held to: a header's class by its number, one step of the walk, and a walk that adds the headers
 -- it passes to a count. What a packet means is in `Reading` and does not rest on this. Assumes nothing.
-use Rattle.octets.specs.Words.{ℕ, ◌+◌, ◌≡◌}
+use Rattle.std.specs.Prelude.{ℕ, ◌+◌, ◌≡◌}
 use Rattle.packet.specs.Reading.{Answer, Outcome, settled, onward}
 use Rattle.packet.specs.Answers.{disposition_of, disposition_number}
 use Rattle.packet.specs.declared.HeaderClass.{HeaderClass}

@@ -1,5 +1,5 @@
 -- What the search is held to from a place of the table on. `Table` does not rest on it. Assumes nothing.
-use Rattle.octets.specs.Words.{ℕ, ◌≡◌, List, drop}
+use Rattle.std.specs.Prelude.{ℕ, ◌≡◌, List, drop}
 use Rattle.std.specs.Borrow.{Bor}
 use Rattle.table.specs.Table.{records, under, first_of, place_from, after}
 

@@ -1,0 +1,13 @@
+-- `threadwicket_cookie_value_decode`: the answers of every decoder into an image; one store for each field. Assumes nothing.
+use Rattle.export.proofs.ViewLaws.{decoded}
+use Rattle.export.proofs.StoreLaws.{shown-done, shown-refused}
+use Rattle.export.specs.Views.{cookie_value_view}
+use Rattle.export.specs.Inner.Steps.{shown}
+use Rattle.export.proofs.Viewables.{cookie-value-viewable}
+use Rattle.export.proofs.cookie_value.threadwicket_cookie_value_decode.Goals as goal
+
+pub returns-then-number-eq0 : goal.returns-then-number-eq0
+returns-then-number-eq0 c = let s = c.args.bytes.now in decoded cookie-value-viewable (λ i. (c.type_inv.bytes i).fits) c.decode-read.ensures.number (shown-done c.decode_number-number.ensures (shown cookie_value_view s) c.if-number-eq0.true (rw (c.carry-then-number-eq0-3.ensures, c.carry-then-number-eq0-2.ensures, c.carry-then-number-eq0.ensures, c.carry.ensures, c.widen_four.ensures)))
+
+pub returns-else-number-eq0 : goal.returns-else-number-eq0
+returns-else-number-eq0 c = decoded cookie-value-viewable (λ i. (c.type_inv.bytes i).fits) c.decode-read.ensures.number (shown-refused c.decode_number-number.ensures c.if-number-eq0.false)

@@ -1,0 +1,13 @@
+-- `threadwicket_inspection_decode`: the answers of every decoder into an image; one store for each field. Assumes nothing.
+use Rattle.export.proofs.ViewLaws.{decoded}
+use Rattle.export.proofs.StoreLaws.{shown-done, shown-refused}
+use Rattle.export.specs.Views.{inspection_view}
+use Rattle.export.specs.Inner.Steps.{shown}
+use Rattle.export.proofs.Viewables.{inspection-viewable}
+use Rattle.export.proofs.inspection_view.threadwicket_inspection_decode.Goals as goal
+
+pub returns-then-number-eq0 : goal.returns-then-number-eq0
+returns-then-number-eq0 c = decoded inspection-viewable (λ i. (c.type_inv.bytes i).fits) c.decode-read.ensures.number (shown-done c.decode_number-number.ensures (shown inspection_view c.args.bytes.now) c.if-number-eq0.true (rw (c.carry-then-number-eq0-7.ensures, c.carry-then-number-eq0-6.ensures, c.carry-then-number-eq0-5.ensures, c.carry-then-number-eq0-4.ensures, c.widen_four-then-number-eq0.ensures, c.carry-then-number-eq0-3.ensures, c.carry-then-number-eq0-2.ensures, c.carry-then-number-eq0.ensures, c.carry.ensures, c.widen_four.ensures, c.widen_one.ensures)))
+
+pub returns-else-number-eq0 : goal.returns-else-number-eq0
+returns-else-number-eq0 c = decoded inspection-viewable (λ i. (c.type_inv.bytes i).fits) c.decode-read.ensures.number (shown-refused c.decode_number-number.ensures c.if-number-eq0.false)

@@ -1,6 +1,0 @@
--- `widen_one`: the number read is the number stored. Assumes nothing.
-use Rattle.octets.proofs.Tools.{needs, free}
-use Rattle.export.proofs.view.widen_one as the
-
-pub widen-one-spec : {M : Type 1} → the.Statement.statement M
-widen-one-spec = the.Tie.close (the.Tie.spec free (λ c. search needs) free (λ c. search needs) (λ c. cc))
