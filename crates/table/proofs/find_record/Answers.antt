@@ -1,10 +1,9 @@
 -- `find_record`: no record before `at` stands under the key, so the first that does from there on is the first of all. A turn passes two
 -- records; where less than two are left, `find_last` goes on. Assumes nothing.
 use Rattle.octets.specs.Words.{ℕ, ◌+◌, ◌-◌, ◌≤◌, ◌≡◌, Bool, true, false, List, length, take, drop}
-use Rattle.octets.proofs.Tools.{refl, sym, ◌∙◌, arith}
+use Rattle.octets.proofs.Tools.{refl, sym, ◌∙◌, arith, rules}
 use Rattle.table.specs.Table.{records, is_under}
 use Rattle.table.proofs.TableLaws.{searched, found_here, found-on, found-is, found_first}
-use Rattle.octets.proofs.Tools.{rules}
 use Rattle.table.proofs.find_record.Goals as goal
 
 -- the first of two records is passed: b is what the test of it answered
