@@ -85,6 +85,7 @@ impl FenceMutationAuthority {
     }
 
     // Puts the record's bytes at the start of `out`: 3 where it is unsound, 4 where there is too little room, and then nothing is put.
+    #[tactic(auto, using(crate::proofs::EncoderLaws::mutation_put, crate::proofs::EncoderLaws::mutation_left))]
     pub fn encode(self, out: &mut [u8]) -> u32
         ensures { Encoded mutation_codec self out.old result out.new }
     {

@@ -52,6 +52,7 @@ fn is_elsewhere(attachment: RootCgroupId, root: RootCgroupId) -> bool
 }
 
 // The addresses of a family are compared where they stand, as numbers.
+#[tactic(auto, using(crate::proofs::AddressLaws::same_four))]
 fn same_address(family: u8, a: &[u8], b: &[u8]) -> bool
     ensures { result ≡ same_address family a.now b.now }
 {

@@ -172,6 +172,7 @@ impl FenceAuthoritySnapshot {
 }
 
 // Whether the socket, or its entry, is not the one that the current record names.
+#[tactic(auto, unfolding(crate::specs::Verdict::stale_authority))]
 fn is_stale(cookie: SocketCookie, entry: FenceEntry, authority: FenceAuthoritySnapshot) -> bool
     ensures { result ≡ stale_authority cookie.0 entry authority }
 {
@@ -192,6 +193,7 @@ fn is_stale(cookie: SocketCookie, entry: FenceEntry, authority: FenceAuthoritySn
 }
 
 // The verdict under an entry that is the current one: by its state, then by its deadline.
+#[tactic(auto, unfolding(crate::specs::Verdict::entry_verdict))]
 fn decide_entry(entry: FenceEntry, now_boot_ns: BootNs) -> FenceVerdict
     ensures { slot_of result ≡ entry_verdict entry now_boot_ns.0 }
 {

@@ -5,8 +5,8 @@ use Rattle.gate.proofs.seek.Goals as goal
 
 pub returns-then-sought-eq0 : goal.returns-then-sought-eq0
 unfolding sought_record
-returns-then-sought-eq0 c = rw (eq-eqb _ _ c.if-sought-eq0.true)
+returns-then-sought-eq0 c = rw (eq-eqb c.args.token.0 0 c.if-sought-eq0.true)
 
 pub returns : goal.returns
 unfolding sought_record
-returns c = rw (ne_eqb _ _ c.if-sought-eq0.false) c.find_record.ensures.bytes
+returns c = rw (ne_eqb c.args.token.0 0 c.if-sought-eq0.false) c.find_record.ensures.bytes

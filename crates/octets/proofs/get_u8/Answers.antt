@@ -1,8 +1,7 @@
 -- `get_u8` answers the octet at the place, and 0 past the end, where the definition's octet is the default. Assumes nothing.
-use Rattle.octets.proofs.Tools.{arith}
+use Rattle.octets.proofs.Tools.{arith, rules}
 use lib.ListN.{get_or-eq_default}
 use Rattle.octets.specs.Octets.{le, octets_at}
-use Rattle.octets.proofs.Tools.{rules}
 use Rattle.octets.proofs.get_u8.Goals as goal
 
 pub returns-then-at-s : goal.returns-then-at-s

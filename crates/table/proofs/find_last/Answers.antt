@@ -1,10 +1,9 @@
 -- `find_last`: where less than a record is left there is none; else one is left, found there, or passed with less than a record after it.
 -- Assumes nothing.
 use Rattle.octets.specs.Words.{◌+◌, ◌-◌, ◌≡◌}
-use Rattle.octets.proofs.Tools.{refl, sym, ◌∙◌, arith}
+use Rattle.octets.proofs.Tools.{refl, sym, ◌∙◌, arith, rules}
 use native.Mathlib.Nat.{zero-add}
 use Rattle.table.proofs.TableLaws.{found_here, found-on, found_none, found-is}
-use Rattle.octets.proofs.Tools.{rules}
 use Rattle.table.proofs.find_last.Goals as goal
 
 pub returns-then-table-at-lt-LEN : goal.returns-then-table-at-lt-LEN

@@ -1,10 +1,9 @@
 -- `find_record`: no record before `at` stands under the key, so the first that does from there on is the first of all. A turn passes two
 -- records; where less than two are left, `find_last` goes on. Assumes nothing.
-use Rattle.octets.specs.Words.{ℕ, ◌+◌, ◌-◌, ◌≤◌, ◌≡◌, Bool, false, List, length, take, drop}
-use Rattle.octets.proofs.Tools.{refl, sym, ◌∙◌, arith}
+use Rattle.octets.specs.Words.{ℕ, ◌+◌, ◌-◌, ◌≤◌, ◌≡◌, Bool, true, false, List, length, take, drop}
+use Rattle.octets.proofs.Tools.{refl, sym, ◌∙◌, arith, rules}
 use Rattle.table.specs.Table.{records, is_under}
 use Rattle.table.proofs.TableLaws.{searched, found_here, found-on, found-is, found_first}
-use Rattle.octets.proofs.Tools.{rules}
 use Rattle.table.proofs.find_record.Goals as goal
 
 -- the first of two records is passed: b is what the test of it answered
@@ -25,8 +24,11 @@ returns-then-is_under c =
 
 pub returns-then-is_under-2 : goal.returns-then-is_under-2
 returns-then-is_under-2 c =
-    let e : c.loop-at.at + 80 - (c.loop-at.at + 40) ≡ 40 = omega arith in
-    found_first (passed _ _ _ _ _ (search rules) c.loop-at.invariant.1 c.is_under.ensures c.if-is_under.false) (found-is (found_here _ _ _ (c.loop-at.at + 40) (search rules) (rw e at (sym c.is_under-in-loop-at.ensures ∙ c.if-is_under-2.true))) (rw e) refl)
+    let a = c.args in
+    let at = c.loop-at.at in
+    let e : at + 80 - (at + 40) ≡ 40 = omega arith in
+    let here : is_under a.cookie.0 a.token.0 (take (at + 80 - (at + 40)) (drop (at + 40) a.table.now)) ≡ true = sym c.is_under-in-loop-at.ensures ∙ c.if-is_under-2.true in
+    found_first (passed _ _ _ _ _ (search rules) c.loop-at.invariant.1 c.is_under.ensures c.if-is_under.false) (found-is (found_here _ _ _ (at + 40) (search rules) (rw e at here)) (rw e) refl)
 
 pub loop-at-preserved : goal.loop-at-preserved
 loop-at-preserved c =

@@ -1,7 +1,6 @@
 -- `frame_of`: the kinds one by one, and the length by `of_length`. Assumes nothing.
-use Rattle.octets.proofs.Tools.{ne_eqb}
+use Rattle.octets.proofs.Tools.{ne_eqb, rules as known}
 use Rattle.bundle.specs.Frames.{frame_of}
-use Rattle.octets.proofs.Tools.{rules as known}
 use Rattle.bundle.proofs.frames.frame_of.Goals as goal
 
 pub returns-in-1 : goal.returns-in-1

@@ -1,9 +1,2 @@
--- `encode`: its answers are those of every encoder. Assumes nothing.
-use Rattle.codec.proofs.CodecLaws.{refl, encode-refused, encode-put}
-use Rattle.authority.proofs.mutation.FenceMutationAuthority.encode.Goals as goal
-
-pub returns-then-number-eq0 : goal.returns-then-number-eq0
-returns-then-number-eq0 c = encode-put c.is_sound.ensures c.encode_number-number.ensures c.if-number-eq0.true refl c.write.ensures
-
-pub returns-else-number-eq0 : goal.returns-else-number-eq0
-returns-else-number-eq0 c = encode-refused c.is_sound.ensures c.encode_number-number.ensures c.if-number-eq0.false
+-- `encode`: its answers are those of every encoder. The attribute on the function, which names what an encoder leaves in its output, answers
+-- the goals. Assumes nothing.

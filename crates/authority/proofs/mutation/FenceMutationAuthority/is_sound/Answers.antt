@@ -1,9 +1,8 @@
 -- `is_sound`: of a claim that is not 0, the one before it is the generation where it is the one after the generation. Assumes nothing.
 use Rattle.octets.specs.Words.{ℕ, ◌+◌, ◌-◌, ◌≤◌, ◌≡◌, Bool, true, false, ◌&&◌, eqb, ltb}
-use Rattle.octets.proofs.Tools.{refl, arith, eq-eqb, ne_eqb, eqb-true, eqb-false, lt-ltb}
+use Rattle.octets.proofs.Tools.{refl, arith, eq-eqb, ne_eqb, eqb-true, eqb-false, lt-ltb, rules}
 use Rattle.octets.proofs.Choices.{and-true, and-false}
 use Rattle.authority.specs.Mutation.{claim_fits}
-use Rattle.octets.proofs.Tools.{rules}
 use Rattle.authority.proofs.mutation.FenceMutationAuthority.is_sound.Goals as goal
 
 after : (g c : ℕ) → (c ≡ 0 → ⊥) → c ≤ 0xffff_ffff_ffff_ffff → eqb (c - 1) g ≡ (ltb g 0xffff_ffff_ffff_ffff && eqb c (g + 1))
