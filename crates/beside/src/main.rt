@@ -29,7 +29,7 @@ const BLOCKS: u64 = 1_000_000_000_000;
 const FULL: usize = 65024;
 
 // After a block: there may be another, or nothing more is to be done.
-#[derive(Drop)]
+#[derive(Clone, Copy)]
 enum Turn {
     More,
     Over(Outcome),
@@ -37,7 +37,7 @@ enum Turn {
 
 // After a query: the place of the next one, and how much is gathered. Where nothing more is to be done the place is no further on, and the
 // outcome says how that came.
-#[derive(Drop)]
+#[derive(Clone, Copy)]
 struct Step {
     at: usize,
     used: usize,

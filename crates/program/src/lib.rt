@@ -24,7 +24,7 @@ pub struct Streams {
 // ---- arguments and status
 
 // What a program's arguments ask of it.
-#[derive(Drop)]
+#[derive(Clone, Copy)]
 enum Request {
     // There are none: its work.
     Work,
@@ -37,7 +37,7 @@ enum Request {
 }
 
 // How a program ended.
-#[derive(Drop)]
+#[derive(Clone, Copy)]
 pub enum Outcome {
     // It answered in full.
     Answered,
@@ -175,14 +175,14 @@ pub fn begins<R: Env + Files>(
 // ---- reading
 
 // How many bytes stand at the start of a space, and whether a read failed. Where none did and the space is not full, the input ended.
-#[derive(Drop)]
+#[derive(Clone, Copy)]
 pub struct Filled {
     pub length: usize,
     pub failed: bool,
 }
 
 // What became of reading to a limit.
-#[derive(Drop)]
+#[derive(Clone, Copy)]
 pub enum Reading {
     // The input ended, and no more than the limit was read.
     Whole,
@@ -195,7 +195,7 @@ pub enum Reading {
 }
 
 // What reading to a limit gave: how many bytes stand at the start of the space, and what became of it.
-#[derive(Drop)]
+#[derive(Clone, Copy)]
 pub struct Input {
     pub length: usize,
     pub reading: Reading,
@@ -274,7 +274,7 @@ pub fn read_input<R: Read>(from: &mut R, limit: usize, space: &mut [u8]) -> Inpu
 }
 
 // What could not be opened, as a reader: each read of it fails.
-#[derive(Drop)]
+#[derive(Clone, Copy)]
 struct Unopened;
 
 impl Read for Unopened {
@@ -305,7 +305,7 @@ pub fn read_named<R: Files>(rt: &R, path: &[u8], limit: usize, space: &mut [u8])
 // ---- writing
 
 // What became of an answer.
-#[derive(Drop)]
+#[derive(Clone, Copy)]
 pub enum Written {
     All,
     // Whoever read the answers has gone: that is no error, and nothing is said of it.
