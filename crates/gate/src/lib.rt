@@ -240,6 +240,7 @@ fn first_rule(
 }
 
 // A rule's verdict. A number that no rule bears lets nothing pass.
+#[tactic(auto, unfolding(crate::specs::Gate::rules))]
 fn verdict_of(rule: u8) -> FenceVerdict
     ensures { result ≡ (numbered rule rules).verdict }
 {

@@ -7,6 +7,7 @@ use gate::GateAnswer;
 use verdict::{CounterSlot, FenceVerdict};
 
 // The verdict's name, with a space on each side.
+#[tactic(auto, unfolding(crate::specs::Listing::name_of))]
 fn put_verdict(out: &mut [u8], at: usize, verdict: FenceVerdict) -> usize
     ensures { Wrote out.old at (ascii " " ++ name_of verdict ++ ascii " ") out.new result }
 {

@@ -187,6 +187,7 @@ fn counted(
 }
 
 // A Fragment header. Its offset, its reserved bits and M leave the UDP source in doubt unless all are zero.
+#[tactic(auto, unfolding(crate::specs::Reading::fragment_of))]
 fn fragment(packet: &[u8], end: usize, allowance: u8, at: usize) -> Step
     ensures { outcome_of at result ≡ fragment_of packet.now end allowance at }
 {
@@ -267,6 +268,7 @@ fn same_ipv6(packet: &[u8], address: &[u8]) -> bool
     }
 }
 
+#[tactic(auto, unfolding(crate::specs::Reading::ipv4_head))]
 fn ipv4(packet: &[u8], endpoint: ProtectedEndpoint) -> PacketReading
     ensures { answer_of result ≡ ipv4_of packet.now endpoint }
 {

@@ -1,23 +1,10 @@
 -- `ipv6`: each test of the code is the definition's next one. What is left of the head, past the tests before it, is passed over there too,
 -- or it settles the answer; past all of them the answer is the walk's. Assumes nothing.
-use Rattle.octets.proofs.Tools.{rules, ap, ◌∙◌, ne_eqb, lt-ltb, le-ltb}
+use Rattle.octets.proofs.Tools.{rules, ap, ◌∙◌, ne_eqb, le-ltb}
 use Rattle.packet.specs.Reading.{ipv6_head}
 use Rattle.packet.specs.Answers.{disposition_numbered}
 use Rattle.packet.proofs.Laws.{answered, number-back}
 use Rattle.packet.proofs.ipv6.Goals as goal
-
-pub returns-then-len-lt-IPV6_HEADER_LEN : goal.returns-then-len-lt-IPV6_HEADER_LEN
-unfolding ipv6_head
-returns-then-len-lt-IPV6_HEADER_LEN c = simp (lt-ltb _ _ c.if-len-lt-IPV6_HEADER_LEN.true) c.stopped.ensures
-
-pub returns-then-not-same_ipv6 : goal.returns-then-not-same_ipv6
-unfolding ipv6_head
-returns-then-not-same_ipv6 c =
-    simp (
-      le-ltb _ _ c.if-len-lt-IPV6_HEADER_LEN.false,
-      ← c.same_ipv6.ensures,
-      c.if-not-same_ipv6.true,
-    ) c.stopped-then-not-same_ipv6.ensures
 
 pub returns : goal.returns
 unfolding ipv6_head
