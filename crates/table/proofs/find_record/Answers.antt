@@ -36,6 +36,9 @@ loop-at-preserved c =
     let two : c.loop-at.at + 80 ≡ c.loop-at.at + 40 + 40 = omega arith in
     (search rules, rw two (passed _ _ _ _ _ (search rules) c.loop-at.invariant.1 c.is_under.ensures c.if-is_under.false ∙ found-on _ _ _ (c.loop-at.at + 40) (search rules) (rw e at (sym c.is_under-in-loop-at.ensures ∙ c.if-is_under-2.false))))
 
+pub find_last-requires-2 : goal.find_last-requires-2
+find_last-requires-2 c = (omega arith, omega arith)
+
 pub returns : goal.returns
 returns c = found_first c.loop-at.invariant.1 c.find_last-2.ensures
 
