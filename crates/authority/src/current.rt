@@ -6,7 +6,7 @@ ghost use Rattle.authority.specs.Current.{current, open_control, retired_control
 use units::{DurableFenceToken, SocketCookie};
 
 // Token, registered cookie, and whether the token is retired.
-#[derive(Clone, Copy)]
+#[derive(Clone, Copy, Debug, PartialEq, Eq)]
 pub struct CurrentFenceToken {
     pub durable_fence_token: DurableFenceToken,
     pub registered_socket_cookie: SocketCookie,
@@ -14,7 +14,7 @@ pub struct CurrentFenceToken {
 }
 
 // What a constructor or the decoder answers: 0 and the record, or a refusal's number and the all-zero record.
-#[derive(Clone, Copy)]
+#[derive(Clone, Copy, Debug, PartialEq, Eq)]
 pub struct CurrentAnswer {
     pub number: u32,
     pub value: CurrentFenceToken,

@@ -2,5 +2,6 @@
 pub mod LayoutLaws
 pub mod TestLaws
 pub mod CodecLaws
+pub mod AnswerLaws
 pub mod UniqueLaws
 pub mod Unique

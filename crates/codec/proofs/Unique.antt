@@ -5,13 +5,18 @@ use Rattle.octets.specs.Determined.{Determined}
 use Rattle.octets.proofs.UniqueLaws.{as-told, as-left, as-numbered}
 use Rattle.codec.specs.declared.Head.{Head}
 use Rattle.codec.specs.Head.{head_numbers}
+use Rattle.codec.specs.Answers.{number_told}
+use Rattle.codec.proofs.AnswerLaws.{done-injective}
 use Rattle.codec.proofs as the
 
-pub room-number-determined : Determined the.room_number.Kinds.ps the.room_number.Kinds.r the.room_number.Reads.Learnt
-room-number-determined κs a x y u v = as-told
+pub refusal-number-determined : Determined the.Refusal.number.Kinds.ps the.Refusal.number.Kinds.r the.Refusal.number.Reads.Learnt
+refusal-number-determined κs a x y u v = as-told
 
-pub encode-number-determined : Determined the.encode_number.Kinds.ps the.encode_number.Kinds.r the.encode_number.Reads.Learnt
-encode-number-determined κs a x y u v = as-told
+pub check-room-determined : Determined the.check_room.Kinds.ps the.check_room.Kinds.r the.check_room.Reads.Learnt
+check-room-determined κs a x y u v = as-numbered number_told done-injective x y
+
+pub check-encoding-determined : Determined the.check_encoding.Kinds.ps the.check_encoding.Kinds.r the.check_encoding.Reads.Learnt
+check-encoding-determined κs a x y u v = as-numbered number_told done-injective x y
 
 head-injective : (x y : Head) → head_numbers x ≡ head_numbers y → x ≡ y
 head-injective x y e =

@@ -2,6 +2,7 @@
 -- promised of each. Assumes nothing.
 pub mod Layout
 pub mod Codec
+pub mod Answers
 pub mod Words
 pub mod Head
 pub mod Promises

@@ -12,7 +12,7 @@ use endpoint::ProtectedEndpoint;
 use units::RootCgroupId;
 
 // The configuration, 40 bytes: the endpoint that is protected, and the root cgroup at which the hook has to be attached.
-#[derive(Clone, Copy)]
+#[derive(Clone, Copy, Debug, PartialEq, Eq)]
 pub struct FenceConfig {
     pub endpoint: ProtectedEndpoint,
     pub root_cgroup_id: RootCgroupId,
@@ -20,7 +20,7 @@ pub struct FenceConfig {
 }
 
 // What a constructor or the decoder answers: 0 and the record, or a refusal's number and the all-zero record.
-#[derive(Clone, Copy)]
+#[derive(Clone, Copy, Debug, PartialEq, Eq)]
 pub struct ConfigAnswer {
     pub number: u32,
     pub value: FenceConfig,

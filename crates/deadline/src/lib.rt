@@ -10,7 +10,7 @@ use units::BootNs;
 pub const EGRESS_FENCE_MAX_GATE_LIFETIME_NS: u64 = 300_000_000_000;
 
 // What becomes of a requested deadline.
-#[derive(Clone, Copy)]
+#[derive(Clone, Copy, Debug, PartialEq, Eq)]
 pub enum RefreshDeadlineDecision {
     // The prior deadline had passed when the clock was observed.
     PriorExpired,

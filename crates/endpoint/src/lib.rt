@@ -13,7 +13,7 @@ pub type Ipv6Address = [u8; 16];
 
 // The Rust's enum of two cases, each with an array, as one struct: `family` is 4 or 6, and an IPv4 address stands in the first four
 // bytes of `address`.
-#[derive(Clone, Copy)]
+#[derive(Clone, Copy, Debug, PartialEq, Eq)]
 pub struct ProtectedEndpoint {
     pub family: u8,
     pub address: [u8; 16],
@@ -21,7 +21,7 @@ pub struct ProtectedEndpoint {
 }
 
 // What a constructor answers: 0 and the endpoint, or 2 and the all-zero record.
-#[derive(Clone, Copy)]
+#[derive(Clone, Copy, Debug, PartialEq, Eq)]
 pub struct EndpointAnswer {
     pub number: u32,
     pub endpoint: ProtectedEndpoint,

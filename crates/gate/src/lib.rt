@@ -20,7 +20,7 @@ use verdict::FenceVerdict;
 pub type SocketAddress = [u8; 16];
 
 // The socket that a packet leaves from. An IPv4 address stands in the first four bytes of `address`.
-#[derive(Clone, Copy)]
+#[derive(Clone, Copy, Debug, PartialEq, Eq)]
 pub struct Socket {
     pub family: u8,
     pub address: SocketAddress,
@@ -28,7 +28,7 @@ pub struct Socket {
 }
 
 // The gate's answer for a packet.
-#[derive(Clone, Copy)]
+#[derive(Clone, Copy, Debug, PartialEq, Eq)]
 pub struct GateAnswer {
     pub verdict: FenceVerdict,
     // The IPv6 extension headers passed; 0 where the packet was not read.
@@ -36,7 +36,7 @@ pub struct GateAnswer {
 }
 
 // Which rule answers a call, by its number, and what the packet reads as; where it was not read, as the endpoint's, with no header.
-#[derive(Clone, Copy)]
+#[derive(Clone, Copy, Debug, PartialEq, Eq)]
 struct Ruling {
     rule: u8,
     reading: PacketReading,

@@ -9,14 +9,14 @@ ghost use Rattle.inspection.specs.Inner.Steps.{part_taken, part_read};
 use records::cookie_value::FenceCookieValue;
 
 // The entry that was asked for, where there was one.
-#[derive(Clone, Copy)]
+#[derive(Clone, Copy, Debug, PartialEq, Eq)]
 pub enum InspectedEntry {
     Absent,
     Present(FenceCookieValue),
 }
 
 // What the bytes in an inner entry's place give: whether they are taken, and the entry.
-#[derive(Clone, Copy)]
+#[derive(Clone, Copy, Debug, PartialEq, Eq)]
 pub(crate) struct PartAnswer {
     pub(crate) taken: bool,
     pub(crate) value: InspectedEntry,

@@ -16,7 +16,7 @@ use authority::mutation::FenceMutationAuthority;
 use codec::Head;
 
 // An inspection, 128 bytes: the current record, the mutation authority, and the entry that was looked up, if there is one.
-#[derive(Clone, Copy)]
+#[derive(Clone, Copy, Debug, PartialEq, Eq)]
 pub struct FenceInspection {
     pub current: CurrentFenceToken,
     pub mutation: FenceMutationAuthority,
@@ -24,7 +24,7 @@ pub struct FenceInspection {
 }
 
 // What a constructor or the decoder answers: 0 and the record, or a refusal's number and the all-zero record.
-#[derive(Clone, Copy)]
+#[derive(Clone, Copy, Debug, PartialEq, Eq)]
 pub struct InspectionAnswer {
     pub number: u32,
     pub value: FenceInspection,

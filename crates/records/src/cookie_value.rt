@@ -8,7 +8,7 @@ use crate::key::FenceCookieKey;
 use units::{BootNs, ControlEpoch, DurableFenceToken, SocketCookie};
 
 // State, cookie, token, deadline and epoch of a registered socket.
-#[derive(Clone, Copy)]
+#[derive(Clone, Copy, Debug, PartialEq, Eq)]
 pub struct FenceCookieValue {
     pub state: FenceEntryState,
     pub socket_cookie: SocketCookie,
@@ -18,7 +18,7 @@ pub struct FenceCookieValue {
 }
 
 // What a constructor or the decoder answers: 0 and the record, or a refusal's number and the all-zero record.
-#[derive(Clone, Copy)]
+#[derive(Clone, Copy, Debug, PartialEq, Eq)]
 pub struct CookieValueAnswer {
     pub number: u32,
     pub value: FenceCookieValue,

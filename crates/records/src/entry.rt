@@ -7,7 +7,7 @@ ghost use Rattle.records.specs.declared.entry.FenceEntryState.TheVariants.{Initi
 use units::{BootNs, ControlEpoch, DurableFenceToken};
 
 // The state of an entry.
-#[derive(Clone, Copy)]
+#[derive(Clone, Copy, Debug, PartialEq, Eq)]
 pub enum FenceEntryState {
     // Registered, and not yet opened.
     InitialClosed,
@@ -20,7 +20,7 @@ pub enum FenceEntryState {
 }
 
 // State, token, deadline and epoch of a registered socket.
-#[derive(Clone, Copy)]
+#[derive(Clone, Copy, Debug, PartialEq, Eq)]
 pub struct FenceEntry {
     pub state: FenceEntryState,
     pub durable_fence_token: DurableFenceToken,
@@ -29,7 +29,7 @@ pub struct FenceEntry {
 }
 
 // What a constructor or the decoder answers: 0 and the record, or a refusal's number and the all-zero record.
-#[derive(Clone, Copy)]
+#[derive(Clone, Copy, Debug, PartialEq, Eq)]
 pub struct EntryAnswer {
     pub number: u32,
     pub value: FenceEntry,

@@ -6,14 +6,14 @@ ghost use Rattle.records.specs.Key.{key_codec};
 use units::{DurableFenceToken, SocketCookie};
 
 // The cookie and the token of a registered socket.
-#[derive(Clone, Copy)]
+#[derive(Clone, Copy, Debug, PartialEq, Eq)]
 pub struct FenceCookieKey {
     pub socket_cookie: SocketCookie,
     pub durable_fence_token: DurableFenceToken,
 }
 
 // What a constructor or the decoder answers: 0 and the record, or a refusal's number and the all-zero record.
-#[derive(Clone, Copy)]
+#[derive(Clone, Copy, Debug, PartialEq, Eq)]
 pub struct KeyAnswer {
     pub number: u32,
     pub value: FenceCookieKey,

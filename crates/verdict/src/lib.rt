@@ -36,7 +36,7 @@ pub const COUNTER_STALE_TOKEN: u32 = 7;
 pub const EGRESS_FENCE_COUNTER_SLOTS: u32 = 8;
 
 // What becomes of a packet.
-#[derive(Clone, Copy)]
+#[derive(Clone, Copy, Debug, PartialEq, Eq)]
 pub enum FenceVerdict {
     // The packet is provably none of the protected endpoint's.
     PassUnrelated,
@@ -57,7 +57,7 @@ pub enum FenceVerdict {
 }
 
 // The slot in which a verdict is counted, if it is counted at all.
-#[derive(Clone, Copy)]
+#[derive(Clone, Copy, Debug, PartialEq, Eq)]
 pub enum CounterSlot {
     Uncounted,
     Slot(u32),
@@ -109,7 +109,7 @@ impl FenceVerdict {
 }
 
 // What is known of the packet.
-#[derive(Clone, Copy)]
+#[derive(Clone, Copy, Debug, PartialEq, Eq)]
 pub struct PacketFenceContext {
     pub attachment_identity_valid: bool,
     pub socket_endpoint_matches: bool,
@@ -118,14 +118,14 @@ pub struct PacketFenceContext {
 }
 
 // The entry of the socket, if it is registered.
-#[derive(Clone, Copy)]
+#[derive(Clone, Copy, Debug, PartialEq, Eq)]
 pub enum RegisteredEntry {
     Absent,
     Present(FenceEntry),
 }
 
 // What is known of the authority, as of one moment.
-#[derive(Clone, Copy)]
+#[derive(Clone, Copy, Debug, PartialEq, Eq)]
 pub struct FenceAuthoritySnapshot {
     pub entry: RegisteredEntry,
     pub current_durable_fence_token: DurableFenceToken,

@@ -1,2 +1,0 @@
--- `encode`: its answers are those of every encoder. The attribute on the function, which names what an encoder leaves in its output, answers
--- the goals. Assumes nothing.
