@@ -1,4 +1,3 @@
 -- What is shown of `authority` beside the proofs of its functions. Assumes nothing.
 pub mod AuthorityLaws
-pub mod EncoderLaws
 pub mod Unique

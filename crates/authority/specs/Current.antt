@@ -1,8 +1,9 @@
 -- Document 01, 'Record layouts': "Current, 24: all zero is the initial record. Else bytes 0-3 zero, control u32, token u64, cookie
 -- u64." Assumes nothing.
-use Rattle.std.specs.Prelude.{ℕ, ◌%◌, ◌^◌, ◌<◌, Bool, true, false, cond, not, ◌&&◌, ◌||◌, [], ◌∷◌, get_or, eqb}
+use Rattle.std.specs.Prelude.{ℕ, ◌%◌, ◌^◌, ◌<◌, Bool, true, false, cond, not, ◌&&◌, ◌||◌, List, [], ◌∷◌, get_or, eqb}
 use Rattle.codec.specs.Words.{little, test, Codec}
 use Rattle.authority.specs.declared.current.CurrentFenceToken.{CurrentFenceToken}
+use Rattle.authority.specs.declared.current.CurrentFields.{CurrentFields}
 
 abbrev pub current : ℕ → ℕ → Bool → CurrentFenceToken
 current t c b = record { durable_fence_token = record { 0 = t }; registered_socket_cookie = record { 0 = c }; retirement_closed = b }
@@ -42,6 +43,10 @@ current_codec = record {
   fields = λ v. 0 ∷ current_control v ∷ v.durable_fence_token.0 ∷ v.registered_socket_cookie.0 ∷ [];
   blank = current 0 0 false;
 }
+
+-- the numbers of fields
+abbrev pub current_numbers : CurrentFields → List ℕ
+current_numbers f = f.zeros ∷ f.control ∷ f.durable_fence_token.0 ∷ f.registered_socket_cookie.0 ∷ []
 
 -- a value of its type
 abbrev pub CurrentFormed : CurrentFenceToken → Type 0

@@ -1,8 +1,10 @@
 // The current record, 24 bytes: the durable token in force, and the socket cookie registered under it.
-ghost use Rattle.std.specs.Prelude.{◌≡◌, not, [], ◌∷◌, eqb};
-ghost use Rattle.codec.specs.Words.{put, asking, ok, bytes, Built, Decoded, Encoded, sound};
-ghost use Rattle.authority.specs.Current.{current, open_control, retired_control, current_control, current_codec, is_lifecycle_open, is_retirement_closed};
+ghost use Rattle.std.specs.Prelude.{refl, ◌≡◌, not, [], ◌∷◌, eqb};
+ghost use Rattle.codec.specs.Answers.{Builds};
+ghost use Rattle.codec.specs.Words.{put, asking, ok, laid};
+ghost use Rattle.authority.specs.Current.{open_control, retired_control, current_control, current_codec, current_numbers, is_lifecycle_open, is_retirement_closed};
 
+use codec::{Record, Refusal};
 use units::{DurableFenceToken, SocketCookie};
 
 // Token, registered cookie, and whether the token is retired.
@@ -13,80 +15,62 @@ pub struct CurrentFenceToken {
     pub retirement_closed: bool,
 }
 
-// What a constructor or the decoder answers: 0 and the record, or a refusal's number and the all-zero record.
+// The numbers of the layout's fields, as bytes or a constructor's arguments give them.
 #[derive(Clone, Copy, Debug, PartialEq, Eq)]
-pub struct CurrentAnswer {
-    pub number: u32,
-    pub value: CurrentFenceToken,
+pub struct CurrentFields {
+    pub zeros: u32,
+    pub control: u32,
+    pub durable_fence_token: DurableFenceToken,
+    pub registered_socket_cookie: SocketCookie,
 }
 
-// Whether the four numbers of the layout obey its rule, by the control.
-pub fn rule(zeros: u32, control: u32, token: DurableFenceToken, cookie: SocketCookie) -> bool
-    ensures { result ≡ ok current_codec (zeros ∷ control ∷ token.0 ∷ cookie.0 ∷ []) }
-{
-    let number = token.0;
-    let registered = cookie.0;
-    if zeros != 0 {
-        return false;
+impl CurrentFields {
+    // Whether they obey the record's rule, by the control.
+    #[tactic(auto, unfolding(crate::specs::Current::current_listed, crate::specs::Current::token_fits, crate::specs::Current::cookie_fits))]
+    pub fn obey_rule(self) -> bool
+        ensures { result ≡ ok current_codec (current_numbers self) }
+    {
+        let token = self.durable_fence_token.0;
+        let cookie = self.registered_socket_cookie.0;
+        if self.zeros != 0 {
+            return false;
+        }
+        match self.control {
+            CurrentFenceToken::LIFECYCLE_OPEN_CONTROL => token % 2 != 0,
+            CurrentFenceToken::RETIREMENT_CLOSED_CONTROL => {
+                ((token % 2 == 0) & (token != 0)) & (cookie == 0)
+            }
+            0 => (token == 0) & (cookie == 0),
+            _ => false,
+        }
     }
-    if control == CurrentFenceToken::LIFECYCLE_OPEN_CONTROL {
-        return number % 2 != 0;
-    }
-    if control == CurrentFenceToken::RETIREMENT_CLOSED_CONTROL {
-        return ((number % 2 == 0) & (number != 0)) & (registered == 0);
-    }
-    if control == 0 {
-        return (number == 0) & (registered == 0);
-    }
-    false
-}
 
-fn answer(
-    number: u32,
-    durable_fence_token: DurableFenceToken,
-    registered_socket_cookie: SocketCookie,
-    retirement_closed: bool,
-) -> CurrentAnswer
-    ensures { (result.number ≡ number) × (result.value ≡ current durable_fence_token.0 registered_socket_cookie.0 retirement_closed) }
-{
-    CurrentAnswer {
-        number,
-        value: CurrentFenceToken {
-            durable_fence_token,
-            registered_socket_cookie,
-            retirement_closed,
-        },
+    // The record that they stand for, or 2 where they break its rule.
+    pub fn to_record(self) -> Result<CurrentFenceToken, Refusal>
+        ensures { Builds current_codec (current_numbers self) result }
+    {
+        if !self.obey_rule() {
+            return Err(Refusal::BrokenRule);
+        }
+        Ok(CurrentFenceToken {
+            durable_fence_token: self.durable_fence_token,
+            registered_socket_cookie: self.registered_socket_cookie,
+            retirement_closed: self.control == CurrentFenceToken::RETIREMENT_CLOSED_CONTROL,
+        })
     }
-}
 
-// A refusal.
-fn refused(number: u32) -> CurrentAnswer
-    ensures { (result.number ≡ number) × (result.value ≡ current_codec.blank) }
-{
-    answer(number, DurableFenceToken(0), SocketCookie(0), false)
-}
-
-// What the four numbers of the layout give.
-fn from_fields(
-    zeros: u32,
-    control: u32,
-    token: DurableFenceToken,
-    cookie: SocketCookie,
-) -> CurrentAnswer
-    ensures { Built current_codec (zeros ∷ control ∷ token.0 ∷ cookie.0 ∷ []) result.number result.value }
-{
-    if rule(zeros, control, token, cookie) {
-        let retired = control == CurrentFenceToken::RETIREMENT_CLOSED_CONTROL;
-        answer(0, token, cookie, retired)
-    } else {
-        refused(2)
+    // The numbers put at the start of a slice, each in its field; octets past the end are dropped. It does not ask for the rule.
+    pub fn write(self, out: &mut [u8])
+        ensures { out.new ≡ put out.old 0 (laid current_codec.layout (current_numbers self)) }
+    {
+        octets::put_u32_le(out, 0, self.zeros);
+        octets::put_u32_le(out, 4, self.control);
+        octets::put_u64_le(out, 8, self.durable_fence_token.0);
+        octets::put_u64_le(out, 16, self.registered_socket_cookie.0);
     }
 }
 
 impl CurrentFenceToken {
-    // The length of the record's bytes.
-    pub const LEN: usize = 24;
-
     // The control word of a token that is open, with a registered socket or without.
     pub const LIFECYCLE_OPEN_CONTROL: u32 = 0x4f45_0201;
 
@@ -94,53 +78,64 @@ impl CurrentFenceToken {
     pub const RETIREMENT_CLOSED_CONTROL: u32 = 0x4f45_0202;
 
     // Before the first token is published.
-    pub fn initial() -> CurrentAnswer
-        ensures { Built current_codec (0 ∷ 0 ∷ 0 ∷ 0 ∷ []) result.number result.value }
+    pub fn initial() -> CurrentFenceToken
+        ensures { Builds current_codec (0 ∷ 0 ∷ 0 ∷ 0 ∷ []) (Ok result) }
     {
-        from_fields(0, 0, DurableFenceToken(0), SocketCookie(0))
+        CurrentFenceToken {
+            durable_fence_token: DurableFenceToken(0),
+            registered_socket_cookie: SocketCookie(0),
+            retirement_closed: false,
+        }
     }
 
     // An open token without a socket, or 2 where it is not odd.
-    pub fn lifecycle_open(durable_fence_token: DurableFenceToken) -> CurrentAnswer
-        ensures { Built current_codec (0 ∷ open_control ∷ durable_fence_token.0 ∷ 0 ∷ []) result.number result.value }
+    pub fn lifecycle_open(
+        durable_fence_token: DurableFenceToken,
+    ) -> Result<CurrentFenceToken, Refusal>
+        ensures { Builds current_codec (0 ∷ open_control ∷ durable_fence_token.0 ∷ 0 ∷ []) result }
     {
-        from_fields(
-            0,
-            CurrentFenceToken::LIFECYCLE_OPEN_CONTROL,
+        CurrentFields {
+            zeros: 0,
+            control: CurrentFenceToken::LIFECYCLE_OPEN_CONTROL,
             durable_fence_token,
-            SocketCookie(0),
-        )
+            registered_socket_cookie: SocketCookie(0),
+        }
+        .to_record()
     }
 
     // A retired token, or 2 where it is 0 or odd.
-    pub fn retirement_closed(durable_fence_token: DurableFenceToken) -> CurrentAnswer
-        ensures { Built current_codec (0 ∷ retired_control ∷ durable_fence_token.0 ∷ 0 ∷ []) result.number result.value }
+    pub fn retirement_closed(
+        durable_fence_token: DurableFenceToken,
+    ) -> Result<CurrentFenceToken, Refusal>
+        ensures { Builds current_codec (0 ∷ retired_control ∷ durable_fence_token.0 ∷ 0 ∷ []) result }
     {
-        from_fields(
-            0,
-            CurrentFenceToken::RETIREMENT_CLOSED_CONTROL,
+        CurrentFields {
+            zeros: 0,
+            control: CurrentFenceToken::RETIREMENT_CLOSED_CONTROL,
             durable_fence_token,
-            SocketCookie(0),
-        )
+            registered_socket_cookie: SocketCookie(0),
+        }
+        .to_record()
     }
 
     // A registered cookie is not 0.
     pub fn registered(
         durable_fence_token: DurableFenceToken,
         registered_socket_cookie: SocketCookie,
-    ) -> CurrentAnswer
-        ensures { Built (asking (not (eqb registered_socket_cookie.0 0)) current_codec)
-            (0 ∷ open_control ∷ durable_fence_token.0 ∷ registered_socket_cookie.0 ∷ []) result.number result.value }
+    ) -> Result<CurrentFenceToken, Refusal>
+        ensures { Builds (asking (not (eqb registered_socket_cookie.0 0)) current_codec)
+            (0 ∷ open_control ∷ durable_fence_token.0 ∷ registered_socket_cookie.0 ∷ []) result }
     {
         if registered_socket_cookie.0 == 0 {
-            return refused(2);
+            return Err(Refusal::BrokenRule);
         }
-        from_fields(
-            0,
-            CurrentFenceToken::LIFECYCLE_OPEN_CONTROL,
+        CurrentFields {
+            zeros: 0,
+            control: CurrentFenceToken::LIFECYCLE_OPEN_CONTROL,
             durable_fence_token,
             registered_socket_cookie,
-        )
+        }
+        .to_record()
     }
 
     // The durable token in force, or 0 before the first.
@@ -175,58 +170,54 @@ impl CurrentFenceToken {
     pub fn control(self) -> u32
         ensures { result ≡ current_control self }
     {
-        let token = self.durable_fence_token;
         if self.retirement_closed {
-            return CurrentFenceToken::RETIREMENT_CLOSED_CONTROL;
+            CurrentFenceToken::RETIREMENT_CLOSED_CONTROL
+        } else if self.durable_fence_token.0 == 0 {
+            0
+        } else {
+            CurrentFenceToken::LIFECYCLE_OPEN_CONTROL
         }
-        if token.0 == 0 {
-            return 0;
-        }
-        CurrentFenceToken::LIFECYCLE_OPEN_CONTROL
     }
 
-    // Whether the decoder gives this record for some bytes.
-    pub fn is_sound(self) -> bool
-        ensures { result ≡ sound current_codec self }
+    // The numbers that the record is written with.
+    pub fn fields(self) -> CurrentFields
+        ensures { current_numbers result ≡ current_codec.fields self }
     {
-        let token = self.durable_fence_token;
-        let cookie = self.registered_socket_cookie;
-        rule(0, self.control(), token, cookie)
-    }
-
-    // The record of its bytes: 1 for another length, 2 where they break its rule.
-    pub fn decode(s: &[u8]) -> CurrentAnswer
-        ensures { Decoded current_codec s.now result.number result.value }
-    {
-        if s.len() != CurrentFenceToken::LEN {
-            return refused(1);
+        CurrentFields {
+            zeros: 0,
+            control: self.control(),
+            durable_fence_token: self.durable_fence_token,
+            registered_socket_cookie: self.registered_socket_cookie,
         }
-        let zeros = octets::get_u32_le(s, 0);
-        let control = octets::get_u32_le(s, 4);
-        let token = DurableFenceToken(octets::get_u64_le(s, 8));
-        let cookie = SocketCookie(octets::get_u64_le(s, 16));
-        from_fields(zeros, control, token, cookie)
+    }
+}
+
+impl Record for CurrentFenceToken {
+    ghost codec = { current_codec };
+
+    const LEN: usize = 24;
+
+    ghost LEN = { 24 };
+
+    ghost sized = { refl };
+
+    ghost counted = { λ v. refl };
+
+    fn is_sound(self) -> bool {
+        self.fields().obey_rule()
     }
 
-    // Puts the record's bytes at the start of `out`: 3 where it is unsound, 4 where there is too little room, and then nothing is put.
-    pub fn encode(self, out: &mut [u8]) -> u32
-        ensures { Encoded current_codec self out.old result out.new }
-    {
-        let number = codec::encode_number(self.is_sound(), CurrentFenceToken::LEN, out.len());
-        if number == 0 {
-            self.write(out);
+    fn read(s: &[u8]) -> Result<CurrentFenceToken, Refusal> {
+        CurrentFields {
+            zeros: octets::get_u32_le(s, 0),
+            control: octets::get_u32_le(s, 4),
+            durable_fence_token: DurableFenceToken(octets::get_u64_le(s, 8)),
+            registered_socket_cookie: SocketCookie(octets::get_u64_le(s, 16)),
         }
-        number
+        .to_record()
     }
 
-    // The record's fields, put at the start of a slice, for whatever holds the record as a part; octets past the end are dropped. It
-    // does not ask whether the record is sound.
-    pub fn write(self, out: &mut [u8])
-        ensures { out.new ≡ put out.old 0 (bytes current_codec self) }
-    {
-        octets::put_u32_le(out, 0, 0);
-        octets::put_u32_le(out, 4, self.control());
-        octets::put_u64_le(out, 8, self.durable_fence_token.0);
-        octets::put_u64_le(out, 16, self.registered_socket_cookie.0);
+    fn write(self, out: &mut [u8]) {
+        self.fields().write(out);
     }
 }

@@ -1,5 +1,5 @@
 // The mutation authority, 16 bytes: the last completed generation, and the claim in flight.
-ghost use Rattle.std.specs.Prelude.{refl, [], ◌∷◌};
+ghost use Rattle.std.specs.Prelude.{refl, ◌≡◌, [], ◌∷◌};
 ghost use Rattle.codec.specs.Answers.{Builds};
 ghost use Rattle.authority.specs.Mutation.{mutation_codec};
 
@@ -14,10 +14,13 @@ pub struct FenceMutationAuthority {
 
 impl FenceMutationAuthority {
     // Before the first generation.
-    pub fn initial() -> Result<FenceMutationAuthority, Refusal>
-        ensures { Builds mutation_codec (0 ∷ 0 ∷ []) result }
+    pub fn initial() -> FenceMutationAuthority
+        ensures { Builds mutation_codec (0 ∷ 0 ∷ []) (Ok result) }
     {
-        FenceMutationAuthority::new(0, 0)
+        FenceMutationAuthority {
+            generation: 0,
+            in_flight_claim: 0,
+        }
     }
 
     // A generation and the claim in flight, or 2 where the claim is neither 0 nor the next generation.

@@ -2,5 +2,5 @@
 pub use Rattle.std.specs.Prelude.{ℕ, ◌+◌, ◌%◌, ◌^◌, ◌<◌, ◌≡◌, Bool, true, false, cond, not, ◌&&◌, ◌||◌, List, [], ◌∷◌, get_or, eqb, ltb}
 pub use Rattle.octets.specs.Octets.{put}
 pub use Rattle.octets.specs.Lists.{among}
-pub use Rattle.codec.specs.Layout.{little}
+pub use Rattle.codec.specs.Layout.{little, laid}
 pub use Rattle.codec.specs.Codec.{test, Codec, asking, ok, sound, bytes, Built, Decoded, Encoded}

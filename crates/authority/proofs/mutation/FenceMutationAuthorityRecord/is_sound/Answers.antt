@@ -3,7 +3,7 @@ use Rattle.octets.specs.Words.{ℕ, ◌+◌, ◌-◌, ◌≤◌, ◌≡◌, Bool
 use Rattle.octets.proofs.Tools.{refl, arith, eq-eqb, ne_eqb, eqb-true, eqb-false, lt-ltb, rules}
 use Rattle.octets.proofs.Choices.{and-true, and-false}
 use Rattle.authority.specs.Mutation.{claim_fits}
-use Rattle.authority.proofs.mutation.FenceMutationAuthority.is_sound.Goals as goal
+use Rattle.authority.proofs.mutation.FenceMutationAuthorityRecord.is_sound.Goals as goal
 
 after : (g c : ℕ) → (c ≡ 0 → ⊥) → c ≤ 0xffff_ffff_ffff_ffff → eqb (c - 1) g ≡ (ltb g 0xffff_ffff_ffff_ffff && eqb c (g + 1))
 after g c h most = go (eqb c (g + 1)) refl

@@ -1,7 +1,7 @@
 -- `write`: one store for each field, in the order of the layout. Assumes nothing.
 use Rattle.codec.proofs.LayoutLaws.{puts-laid}
 use Rattle.authority.specs.Mutation.{mutation_codec}
-use Rattle.authority.proofs.mutation.FenceMutationAuthority.write.Goals as goal
+use Rattle.authority.proofs.mutation.FenceMutationAuthorityRecord.write.Goals as goal
 
 pub returns : goal.returns
 returns c =

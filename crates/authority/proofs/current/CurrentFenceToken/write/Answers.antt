@@ -1,9 +1,0 @@
--- `write`: one store for each field, in the order of the layout. Assumes nothing.
-use Rattle.codec.proofs.LayoutLaws.{puts-laid}
-use Rattle.authority.specs.Current.{current_codec}
-use Rattle.authority.proofs.current.CurrentFenceToken.write.Goals as goal
-
-pub returns : goal.returns
-returns c =
-    let a = c.args in
-    rw (c.put_u64_le-2.ensures, c.put_u64_le.ensures, c.put_u32_le-2.ensures, c.put_u32_le.ensures, c.control.ensures) (puts-laid current_codec.layout (current_codec.fields a.self) a.out.now 0)

@@ -1,0 +1,9 @@
+-- `write`: one store for each field, in the order of the layout. Assumes nothing.
+use Rattle.codec.proofs.LayoutLaws.{puts-laid}
+use Rattle.authority.specs.Current.{current_codec, current_numbers}
+use Rattle.authority.proofs.current.CurrentFields.write.Goals as goal
+
+pub returns : goal.returns
+returns c =
+    let a = c.args in
+    rw (c.put_u64_le-2.ensures, c.put_u64_le.ensures, c.put_u32_le-2.ensures, c.put_u32_le.ensures) (puts-laid current_codec.layout (current_numbers a.self) a.out.now 0)
