@@ -203,6 +203,10 @@ impl Record for CurrentFenceToken {
 
     ghost counted = { λ v. refl };
 
+    fn blank() -> CurrentFenceToken {
+        CurrentFenceToken::initial()
+    }
+
     fn is_sound(self) -> bool {
         self.fields().obey_rule()
     }

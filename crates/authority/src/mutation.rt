@@ -64,6 +64,10 @@ impl Record for FenceMutationAuthority {
 
     ghost counted = { λ v. refl };
 
+    fn blank() -> FenceMutationAuthority {
+        FenceMutationAuthority::initial()
+    }
+
     // A claim is the one after the generation; nothing is after the last.
     fn is_sound(self) -> bool {
         let generation = self.generation;

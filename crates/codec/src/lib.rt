@@ -91,6 +91,10 @@ pub trait Record: Copy {
 
     ghost LEN: { ℕ };
 
+    // The all-zero record, which stands for one that was refused.
+    fn blank() -> Self
+        ensures { result ≡ codec.blank };
+
     // Whether the decoder gives this record for some bytes.
     fn is_sound(self) -> bool
         ensures { result ≡ sound codec self };
