@@ -12,6 +12,7 @@ use config::FenceConfig;
 use endpoint::ProtectedEndpoint;
 use packet::{PacketEndpointDisposition, PacketReading};
 use records::cookie_value::FenceCookieValue;
+use records::key::FenceCookieKey;
 use records::entry::FenceEntryState;
 use units::{BootNs, DurableFenceToken, RootCgroupId, SocketCookie};
 use verdict::FenceVerdict;
@@ -114,7 +115,11 @@ fn seek(table: &[u8], cookie: SocketCookie, token: DurableFenceToken) -> &[u8]
     if sought == 0 {
         return &table[..0];
     }
-    table::find_record(table, cookie, token)
+    let key = FenceCookieKey {
+        socket_cookie: cookie,
+        durable_fence_token: token,
+    };
+    table::find_record(table, key)
 }
 
 // Rule 10: no socket is registered, or another one.
