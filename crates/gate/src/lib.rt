@@ -12,7 +12,8 @@ use config::FenceConfig;
 use endpoint::ProtectedEndpoint;
 use packet::{PacketEndpointDisposition, PacketReading};
 use records::cookie_value::FenceCookieValue;
-use units::{BootNs, DurableFenceToken, RootCgroupId, SocketCookie};
+use records::key::FenceCookieKey;
+use units::{BootNs, RootCgroupId, SocketCookie};
 use verdict::FenceVerdict;
 
 // An address of either family, in network order.
@@ -124,13 +125,13 @@ fn read_source(socket: Socket, packet: &[u8], endpoint: ProtectedEndpoint) -> Pa
 
 // Rule 8: token 0 seeks nothing.
 #[tactic(auto, unfolding(crate::specs::Inner::Steps::sought_record))]
-fn seek(table: &[u8], cookie: SocketCookie, token: DurableFenceToken) -> &[u8]
-    ensures { result.now ≡ sought_record cookie.0 token.0 table.now }
+fn seek(table: &[u8], key: FenceCookieKey) -> &[u8]
+    ensures { result.now ≡ sought_record key.socket_cookie.0 key.durable_fence_token.0 table.now }
 {
-    if token.0 == 0 {
+    if key.durable_fence_token.0 == 0 {
         return &table[..0];
     }
-    table::find_record(table, cookie, token)
+    table::find_record(table, key)
 }
 
 // Rule 10: no socket is registered, or another one.
@@ -174,7 +175,11 @@ fn authorize(cookie: SocketCookie, current: &[u8], table: &[u8], now_boot_ns: Bo
     if !table::is_admissible(table) {
         return GateRule::TableInadmissible;
     }
-    let found = seek(table, cookie, published.durable_fence_token);
+    let key = FenceCookieKey {
+        socket_cookie: cookie,
+        durable_fence_token: published.durable_fence_token,
+    };
+    let found = seek(table, key);
     if found.is_empty() {
         return GateRule::RecordMissing;
     }
