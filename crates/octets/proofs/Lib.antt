@@ -5,3 +5,4 @@ pub mod SameLaws
 pub mod Tools
 pub mod Choices
 pub mod UniqueLaws
+pub mod Unique

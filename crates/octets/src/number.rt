@@ -36,6 +36,9 @@ pub trait Number: Copy + Drop {
         ensures { d.new ≡ put d.old at (be_bytes width (value self)) };
 
     ghost at_most_8: { width ≤ 8 };
+
+    // no two numbers have one value
+    ghost told_apart: { (x y : Self) → value x ≡ value y → x ≡ y };
 }
 
 #[tactic(auto, unfolding(crate::specs::Octets::octets_at, crate::specs::Octets::le, crate::specs::Octets::be, crate::specs::Octets::put, crate::specs::Octets::le_bytes, crate::specs::Octets::be_bytes))]
@@ -45,6 +48,8 @@ impl Number for u8 {
     ghost value = { λ n. n };
 
     ghost at_most_8 = { Prim.search rules };
+
+    ghost told_apart = { λ x y same. same };
 
     fn width() -> usize {
         1
@@ -85,6 +90,9 @@ pub trait Wide: Copy + Drop {
         ensures { Self.Half.value result ≡ number self / 256 ^ Self.Half.width };
 
     ghost at_most_4: { Self.Half.width ≤ 4 };
+
+    // no two numbers have one value
+    ghost told_apart: { (x y : Self) → number x ≡ number y → x ≡ y };
 }
 
 impl Wide for u16 {
@@ -93,6 +101,8 @@ impl Wide for u16 {
     ghost number = { λ n. n };
 
     ghost at_most_4 = { Prim.search rules };
+
+    ghost told_apart = { λ x y same. same };
 
     fn join(low: u8, high: u8) -> u16 {
         low as u16 + high as u16 * 256
@@ -114,6 +124,8 @@ impl Wide for u32 {
 
     ghost at_most_4 = { Prim.search rules };
 
+    ghost told_apart = { λ x y same. same };
+
     fn join(low: u16, high: u16) -> u32 {
         low as u32 + high as u32 * 65536
     }
@@ -133,6 +145,8 @@ impl Wide for u64 {
     ghost number = { λ n. n };
 
     ghost at_most_4 = { Prim.search rules };
+
+    ghost told_apart = { λ x y same. same };
 
     fn join(low: u32, high: u32) -> u64 {
         low as u64 + high as u64 * 4294967296
@@ -154,10 +168,13 @@ impl<W: Wide> Number for W {
 
     ghost at_most_8 = { Prim.search rules };
 
+    ghost told_apart = { W.told_apart };
+
     fn width() -> usize {
         W::Half::width() + W::Half::width()
     }
 
+    #[tactic(auto, using(crate::proofs::OctetsLaws::le_parts))]
     fn whole_le(s: &[u8], at: usize) -> W {
         let low = W::Half::whole_le(s, at);
         let high = W::Half::whole_le(s, at + W::Half::width());
