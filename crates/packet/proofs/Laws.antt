@@ -1,6 +1,8 @@
 -- Laws of the definitions: the walk, a step at a time, and a disposition from its number. Assumes nothing.
-use Rattle.octets.specs.Words.{ℕ, zero, suc, ◌-◌, ◌<◌, ◌≤◌, ◌≡◌, List, eqb}
+use Rattle.octets.specs.Words.{ℕ, zero, suc, ◌+◌, ◌-◌, ◌<◌, ◌≤◌, ◌≡◌, ◌&&◌, List, eqb}
 use Rattle.octets.proofs.Tools.{refl, sym, arith}
+use Rattle.octets.specs.Octets.{Bytes, octets_at, le, same_octets}
+use Rattle.octets.proofs.SameLaws.{same-halves}
 use Rattle.octets.proofs.Choices.{cond-all}
 use native.Mathlib.Numerals.{sub-one}
 use Rattle.packet.specs.Answers.{disposition_number, disposition_numbered}
@@ -50,6 +52,11 @@ module _ (s : List ℕ) (port e : ℕ) where
   unfolding walk_of
   walk_on zero n c n' c' p = absurd (none-stops n c n' c' (sym p))
   walk_on (suc a) n c n' c' p = rw (← p, sub-one)
+
+-- sixteen octets, as two numbers of eight
+pub same_sixteen : (s t : List ℕ) (i j : ℕ) → Bytes s → Bytes t →
+    same_octets (octets_at s i 16) (octets_at t j 16) ≡ (eqb (le (octets_at s i 8)) (le (octets_at t j 8)) && eqb (le (octets_at s (i + 8) 8)) (le (octets_at t (j + 8) 8)))
+same_sixteen s t i j a b = same-halves s t i j 8 8 a b
 
 -- a disposition from its number
 pub number-back : (d : Disposition) → disposition_numbered (disposition_number d) ≡ d

@@ -153,7 +153,7 @@ impl Reader<'_> {
     {
         match self.room(at, UDP_HEADER_LEN) {
             ControlFlow::Break(disposition) => disposition,
-            ControlFlow::Continue(()) if octets::get_u16_be(self.packet, at) == self.port => {
+            ControlFlow::Continue(()) if octets::get_be::<u16>(self.packet, at) == self.port => {
                 PacketEndpointDisposition::Protected
             }
             ControlFlow::Continue(()) => PacketEndpointDisposition::Unrelated,
@@ -205,7 +205,7 @@ impl Reader<'_> {
         ensures { outcome_of at result ≡ fragment_of self.now.packet.now self.now.end allowance at }
     {
         self.enter(at, allowance, IPV6_FRAGMENT_HEADER_LEN)?;
-        if octets::get_u16_be(self.packet, at + 2) != 0 {
+        if octets::get_be::<u16>(self.packet, at + 2) != 0 {
             return ControlFlow::Break(PacketEndpointDisposition::Indeterminate);
         }
         self.pass(at, IPV6_FRAGMENT_HEADER_LEN)
@@ -254,23 +254,17 @@ impl Reader<'_> {
 fn same_ipv4(packet: &[u8], address: &[u8]) -> bool
     ensures { result ≡ same_octets (source4 packet.now) (octets_at address.now 0 4) }
 {
-    octets::get_u32_le(packet, 12) == octets::get_u32_le(address, 0)
+    octets::get_le::<u32>(packet, 12) == octets::get_le::<u32>(address, 0)
 }
 
 // The same of an IPv6 packet's source, which begins at 8, as two numbers. It is called from one place only: the compiler puts it
 // there, behind the test of the packet's length, and the readers' own tests fold away.
+#[tactic(auto, using(crate::proofs::Laws::same_sixteen))]
 fn same_ipv6(packet: &[u8], address: &[u8]) -> bool
     ensures { result ≡ same_octets (source6 packet.now) (octets_at address.now 0 16) }
 {
-    let first = octets::get_u64_le(packet, 8);
-    let second = octets::get_u64_le(packet, 16);
-    let wanted_first = octets::get_u64_le(address, 0);
-    let wanted_second = octets::get_u64_le(address, 8);
-    if first == wanted_first {
-        second == wanted_second
-    } else {
-        false
-    }
+    octets::get_le::<u64>(packet, 8) == octets::get_le::<u64>(address, 0)
+        && octets::get_le::<u64>(packet, 16) == octets::get_le::<u64>(address, 8)
 }
 
 #[tactic(auto, unfolding(crate::specs::Reading::ipv4_head))]
@@ -288,14 +282,14 @@ fn ipv4(packet: &[u8], endpoint: ProtectedEndpoint) -> PacketEndpointDisposition
     if !same_ipv4(packet, &endpoint.address) {
         return PacketEndpointDisposition::Unrelated;
     }
-    let total = octets::get_u16_be(packet, 2) as usize;
+    let total = octets::get_be::<u16>(packet, 2) as usize;
     if total < size || len < total {
         return PacketEndpointDisposition::Indeterminate;
     }
     if octets::get_u8(packet, 9) != IPV4_PROTOCOL_UDP {
         return PacketEndpointDisposition::Unrelated;
     }
-    if octets::get_u16_be(packet, 6) & IPV4_AMBIGUOUS_FRAGMENT_MASK != 0 {
+    if octets::get_be::<u16>(packet, 6) & IPV4_AMBIGUOUS_FRAGMENT_MASK != 0 {
         return PacketEndpointDisposition::Indeterminate;
     }
     let reader = Reader {
@@ -317,7 +311,7 @@ fn ipv6(packet: &[u8], endpoint: ProtectedEndpoint) -> PacketReading
     if !same_ipv6(packet, &endpoint.address) {
         return stopped(PacketEndpointDisposition::Unrelated);
     }
-    let payload = octets::get_u16_be(packet, 4) as usize;
+    let payload = octets::get_be::<u16>(packet, 4) as usize;
     if payload == 0 {
         return stopped(PacketEndpointDisposition::Indeterminate);
     }

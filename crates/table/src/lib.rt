@@ -25,8 +25,8 @@ const PAIR: usize = 2 * FenceCookieValue::LEN;
 fn is_under(bytes: &[u8], key: FenceCookieKey) -> bool
     ensures { result ≡ is_under key.socket_cookie.0 key.durable_fence_token.0 bytes.now }
 {
-    octets::get_u64_le(bytes, 8) == key.socket_cookie.0
-        && octets::get_u64_le(bytes, 16) == key.durable_fence_token.0
+    octets::get_le::<u64>(bytes, 8) == key.socket_cookie.0
+        && octets::get_le::<u64>(bytes, 16) == key.durable_fence_token.0
 }
 
 // From a place after which there is no second whole record: the record there, where it stands under the key; else an empty part.
