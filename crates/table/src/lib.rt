@@ -5,6 +5,7 @@ ghost use Rattle.std.specs.Prelude.{◌+◌, ◌≤◌, ◌<◌, ◌≡◌, leng
 ghost use Rattle.table.specs.Table.{admissible, is_under, FirstUnder};
 ghost use Rattle.table.specs.Inner.Search.{FirstFrom};
 
+use codec::Record;
 use records::cookie_value::FenceCookieValue;
 use records::key::FenceCookieKey;
 
