@@ -1,6 +1,7 @@
 -- The slots: no two verdicts have one number, 255 for none among them, since `verdict_numbered` gives each back from its own; nor have two
 -- slots one list of numbers. Assumes nothing.
-use Rattle.octets.specs.Words.{ℕ, ◌≤◌, ◌≡◌, cond, eqb}
+use Rattle.std.specs.Prelude.{Option, Some, None}
+use Rattle.octets.specs.Words.{ℕ, ◌≤◌, ◌≡◌, cond, List, [], ◌∷◌, eqb}
 use Rattle.octets.proofs.Tools.{refl, sym, ap, ◌∙◌, arith}
 use Rattle.verdict.specs.Verdict.{slot_of, slot_number}
 use Rattle.verdict.specs.declared.FenceVerdict.{FenceVerdict}
