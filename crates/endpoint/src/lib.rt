@@ -3,7 +3,7 @@
 
 ghost use Rattle.std.specs.Prelude.{◌≡◌, ◌++◌, replicate};
 ghost use Rattle.octets.specs.Octets.{octets_at, all_zero};
-ghost use Rattle.endpoint.specs.Endpoint.{usable_ipv4, usable_ipv6, link_local, ipv4_mapped, sound_endpoint, made, ipv4_of, ipv6_of, matches, matches_ipv4, matches_ipv6};
+ghost use Rattle.endpoint.specs.Endpoint.{usable_ipv4, usable_ipv6, link_local, ipv4_mapped, sound_endpoint, blank, made, ipv4_of, ipv6_of, matches, matches_ipv4, matches_ipv6};
 
 use codec::Refusal;
 
@@ -42,7 +42,7 @@ fn is_link_local(address: Ipv6Address) -> bool
 fn prefix_is_zero(address: Ipv6Address) -> bool
     ensures { result ≡ all_zero (octets_at address 0 10) }
 {
-    (octets::get_u64_le(&address, 0) == 0) & (octets::get_u16_le(&address, 8) == 0)
+    (octets::get_le::<u64>(&address, 0) == 0) & (octets::get_le::<u16>(&address, 8) == 0)
 }
 
 // ::ffff:0:0/96.
@@ -56,7 +56,7 @@ fn is_ipv4_mapped(address: Ipv6Address) -> bool
 fn is_unspecified(address: Ipv6Address) -> bool
     ensures { result ≡ all_zero (octets_at address 0 16) }
 {
-    (octets::get_u64_le(&address, 0) == 0) & (octets::get_u64_le(&address, 8) == 0)
+    (octets::get_le::<u64>(&address, 0) == 0) & (octets::get_le::<u64>(&address, 8) == 0)
 }
 
 // Whether an IPv6 endpoint may have this address.
@@ -92,6 +92,17 @@ impl ProtectedEndpoint {
 
     // The family of an IPv6 endpoint.
     pub const IPV6: u8 = 6;
+
+    // The all-zero record, which stands beside a refusal's number where a record is due.
+    pub fn blank() -> ProtectedEndpoint
+        ensures { result ≡ blank }
+    {
+        ProtectedEndpoint {
+            family: 0,
+            address: [0; 16],
+            port: 0,
+        }
+    }
 
     // Whether the value is one that a constructor gives.
     #[tactic(auto, unfolding(crate::specs::Endpoint::sound_endpoint, crate::specs::Endpoint::address_usable, crate::specs::Endpoint::spare_zero))]
