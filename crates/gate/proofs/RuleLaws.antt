@@ -1,8 +1,7 @@
 -- The laws of the list of rules, each rule found by its number: one that does not apply is passed over, and one that applies answers.
 -- Then what each test of the gate's code says of the rule that it stands for. Assumes nothing.
 use Rattle.octets.specs.Words.{ℕ, ◌≡◌, Bool, true, false, cond, not, List, [], ◌∷◌, map, length, take, eqb}
-use Rattle.octets.proofs.Tools.{refl, sym, ap, ◌∙◌, eq-eqb, ne_eqb, not-true, not-false}
-use Rattle.codec.specs.Codec.{Codec, Decoded}
+use Rattle.octets.proofs.Tools.{refl, ap, ◌∙◌, ne_eqb, not-true, not-false}
 use Rattle.endpoint.specs.declared.ProtectedEndpoint.{ProtectedEndpoint}
 use Rattle.config.specs.Config.{config_codec}
 use Rattle.authority.specs.Current.{current_codec}
@@ -14,7 +13,7 @@ use Rattle.gate.specs.declared.Socket.{Socket}
 use Rattle.gate.specs.declared.Ruling.{Ruling}
 use Rattle.table.specs.Table.{records, under, first_of}
 use Rattle.gate.specs.Gate.{Call, decodes, matches, root, differs, reading, token, unread, View, view_of, Rule, allow, rules, first_rule, answering, headers_of, gate_of, answer_of}
-use Rattle.gate.specs.Inner.Steps.{source_of, sought_record, from, numbered, registration, Ruled}
+use Rattle.gate.specs.Inner.Steps.{source_of, sought_record, rule_number, from, numbered, registration, Ruled}
 use Rattle.table.proofs.TableLaws.{first_found, held, first-held}
 
 -- ---- the list
@@ -30,10 +29,6 @@ module _ (v : View) (n : ℕ) {rest : List Rule} (listed : from n rules ≡ numb
   pub here : (numbered n rules).applies v ≡ true → first_rule (from n rules) v ≡ numbered n rules
   here e = rw (listed, e)
 
-  -- so the number of the rule that answers is told
-  pub told : (m : ℕ) → Past m n v → (numbered n rules).applies v ≡ true → (numbered n rules).number ≡ (first_rule (from m rules) v).number
-  told m p e = ap (λ r. r.number) (sym (p ∙ here e))
-
 -- what is the same of each rule in two ways is so of the rule that answers
 pub same_first : {X : Type 0} (f g : Rule → X) (rs : List Rule) (v : View) → map f rs ≡ map g rs → f allow ≡ g allow → f (first_rule rs v) ≡ g (first_rule rs v)
 same_first f g [] v e a = a
@@ -48,7 +43,7 @@ unfolding rules
 of_number v = same_first (λ r. (numbered r.number rules).verdict) (λ r. r.verdict) rules v refl refl
 
 -- so the answer is made of its number and of the reading
-pub answered : (c : Call) (r : Ruling) (x : FenceVerdict) → x ≡ (numbered r.rule rules).verdict → Ruled c r →
+pub answered : (c : Call) (r : Ruling) (x : FenceVerdict) → x ≡ (numbered (rule_number r.rule) rules).verdict → Ruled c r →
     answer_of (record { verdict = x; headers = r.reading.headers }) ≡ gate_of c
 unfolding answering headers_of gate_of
 answered c r x p q =
@@ -56,14 +51,6 @@ answered c r x p q =
     λ i. record { slot = slot_of (verdict i); headers = (q.reading i).headers }
 
 -- ---- the tests
-
--- of a decoder's number
-module _ {R : Type 0} (C : Codec R) {s : List ℕ} {n : ℕ} {v : R} (d : Decoded C s n v) where
-  pub decoded : n ≡ 0 → not (decodes C s) ≡ false
-  decoded e = ap not (eq-eqb _ _ (sym d.number ∙ e))
-
-  pub undecoded : (n ≡ 0 → ⊥) → not (decodes C s) ≡ true
-  undecoded h = ap not (ne_eqb _ _ (λ e. h (d.number ∙ e)))
 
 -- of the packet's reading: under rules 1 and 2 it is not consulted, and past them where the socket differs
 module _ (c : Call) where

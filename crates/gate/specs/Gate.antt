@@ -1,6 +1,6 @@
 -- Document 01, 'The gate's thirteen rules': what a call is given, the view of it that the rules look at, the rules in 01's order, and the
 -- answer. Assumes nothing.
-use Rattle.std.specs.Prelude.{ℕ, Bool, true, cond, not, ◌&&◌, ◌||◌, List, [], ◌∷◌, length, take, eqb, leb}
+use Rattle.std.specs.Prelude.{ℕ, Bool, true, cond, not, ◌&&◌, ◌||◌, List, [], ◌∷◌, length, take, eqb, leb, Option}
 use Rattle.octets.specs.Octets.{octets_at, same_octets}
 use Rattle.codec.specs.Codec.{Codec, decode_number, decode_value}
 use Rattle.endpoint.specs.declared.ProtectedEndpoint.{ProtectedEndpoint}
@@ -16,7 +16,6 @@ use Rattle.packet.specs.Answers.{is_unrelated, is_indeterminate}
 use Rattle.verdict.specs.Verdict.{slot_of}
 use Rattle.verdict.specs.declared.FenceVerdict.{FenceVerdict}
 use Rattle.verdict.specs.declared.FenceVerdict.TheVariants.{PassUnrelated, Allow, DropCookieZero, DropMissing, DropClosed, DropExpired, DropStaleToken, DropMalformed}
-use Rattle.verdict.specs.declared.CounterSlot.{CounterSlot}
 use Rattle.gate.specs.declared.Socket.{Socket}
 use Rattle.gate.specs.declared.GateCall.{GateCall}
 use Rattle.gate.specs.declared.GateAnswer.{GateAnswer}
@@ -192,7 +191,7 @@ headers_of c = (view_of c).reading.headers
 
 -- an answer: the verdict by its slot, and the header count
 pub record Answer : Type 0 where
-  pub slot : CounterSlot
+  pub slot : Option ℕ
   pub headers : ℕ
 
 unfoldable pub gate_of : Call → Answer

@@ -3,7 +3,7 @@
 
 ghost use Rattle.std.specs.Prelude.{◌≡◌, [], ◌∷◌};
 ghost use Rattle.packet.specs.Answers as reading;
-ghost use Rattle.gate.specs.Gate.{same_address, matches, stale, unread, view_of, rules, first_rule, gate_of, answer_of, call_of};
+ghost use Rattle.gate.specs.Gate.{same_address, matches, stale, expired, unread, view_of, rules, first_rule, gate_of, answer_of, call_of};
 ghost use Rattle.gate.specs.Inner.Steps.{source_of, sought_record, rule_number, from, numbered, lookup, registration, Ruled};
 
 use authority::current::CurrentFenceToken;
@@ -141,10 +141,22 @@ fn is_stale(registered: SocketCookie, cookie: SocketCookie) -> bool
     registered.0 == 0 || cookie != registered
 }
 
+// Rule 12: at the deadline, or past it.
+fn is_expired(deadline: BootNs, now_boot_ns: BootNs) -> bool
+    ensures { result ≡ expired deadline.0 now_boot_ns.0 }
+{
+    deadline <= now_boot_ns
+}
+
 // ---- the rules in their order
 
 // Rules 9 to 13: the record that was found under the key.
-fn judge(found: &[u8], registered: SocketCookie, cookie: SocketCookie, now_boot_ns: BootNs) -> GateRule
+fn judge(
+    found: &[u8],
+    registered: SocketCookie,
+    cookie: SocketCookie,
+    now_boot_ns: BootNs,
+) -> GateRule
     ensures { rule_number result ≡ (first_rule (from 9 rules) (registration (found.now ∷ []) registered.0 cookie.0 now_boot_ns.0)).number }
 {
     let Ok(value) = FenceCookieValue::decode(found) else {
@@ -156,7 +168,7 @@ fn judge(found: &[u8], registered: SocketCookie, cookie: SocketCookie, now_boot_
     if value.state.is_closed() {
         return GateRule::EntryClosed;
     }
-    if value.deadline_boot_ns <= now_boot_ns {
+    if is_expired(value.deadline_boot_ns, now_boot_ns) {
         return GateRule::DeadlinePast;
     }
     GateRule::NothingAmiss
@@ -183,7 +195,12 @@ fn authorize(cookie: SocketCookie, current: &[u8], table: &[u8], now_boot_ns: Bo
     if found.is_empty() {
         return GateRule::RecordMissing;
     }
-    judge(found, published.registered_socket_cookie, cookie, now_boot_ns)
+    judge(
+        found,
+        published.registered_socket_cookie,
+        cookie,
+        now_boot_ns,
+    )
 }
 
 // A rule that answers before the packet is read.

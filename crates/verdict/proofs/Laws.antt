@@ -3,7 +3,7 @@
 use Rattle.std.specs.Prelude.{Option, Some, None}
 use Rattle.octets.specs.Words.{ℕ, ◌≤◌, ◌≡◌, cond, List, [], ◌∷◌, eqb}
 use Rattle.octets.proofs.Tools.{refl, sym, ap, ◌∙◌, arith}
-use Rattle.verdict.specs.Verdict.{slot_of, slot_number}
+use Rattle.verdict.specs.Verdict.{slot_of, slot_numbers, slot_number}
 use Rattle.verdict.specs.declared.FenceVerdict.{FenceVerdict}
 use Rattle.verdict.specs.declared.FenceVerdict.TheVariants.{PassUnrelated, Allow, DropCookieZero, DropMissing, DropClosed, DropExpired, DropStaleToken, DropMalformed}
 

@@ -1,2 +1,0 @@
--- `verdict_of`: the rule of that number has that verdict; every other rule drops a packet as malformed. The attribute on the function,
--- which opens the list of rules, answers the goals. Assumes nothing.
