@@ -2,6 +2,7 @@
 #![tactic(auto)]
 
 ghost use Rattle.std.specs.Prelude.{refl, ◌≡◌};
+ghost use Rattle.octets.specs.Octets.{octets_at};
 ghost use Rattle.codec.specs.Answers.{Makes};
 ghost use Rattle.config.specs.Config.{config, config_codec};
 
@@ -15,6 +16,19 @@ pub struct FenceConfig {
     pub endpoint: ProtectedEndpoint,
     pub root_cgroup_id: RootCgroupId,
     pub capacity: u32,
+}
+
+// The sixteen octets of the address, read as two numbers of eight: read by `octets::array_at`, the compiler moves them in four pieces, and
+// the decoder takes nine instructions more.
+fn address_at(s: &[u8]) -> [u8; 16]
+    ensures { result ≡ octets_at s.now 24 16 }
+{
+    let first = octets::get_le::<u64>(s, 24);
+    let second = octets::get_le::<u64>(s, 32);
+    let mut address = [0u8; 16];
+    octets::put_le::<u64>(&mut address, 0, first);
+    octets::put_le::<u64>(&mut address, 8, second);
+    address
 }
 
 impl FenceConfig {
@@ -107,7 +121,7 @@ impl Record for FenceConfig {
         }
         let endpoint = ProtectedEndpoint {
             family: head.byte,
-            address: octets::array_at::<16>(s, 24),
+            address: address_at(s),
             port: octets::get_be::<u16>(s, 8),
         };
         let capacity = octets::get_le::<u32>(s, 12);

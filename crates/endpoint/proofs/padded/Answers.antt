@@ -1,10 +1,8 @@
--- `padded`: the four octets are the whole of the address. Assumes nothing.
-use Rattle.octets.specs.Words.{◌++◌, length, replicate}
-use Rattle.octets.proofs.Tools.{sym, ap, ◌∙◌}
-use Rattle.octets.proofs.OctetsLaws.{octets-whole}
+-- `padded`: four stores into zeros are the four octets and twelve zeros. Assumes nothing.
+use Rattle.octets.specs.Octets.{octets_at}
+use Rattle.octets.proofs.Tools.{refl}
 use Rattle.endpoint.proofs.padded.Goals as goal
 
 pub returns : goal.returns
-returns c =
-    let e = c.copy_from_slice.ensures in
-    ap (λ l. l ++ replicate 12 0) (e.after ∙ sym (octets-whole c.args.address 4 (sym (ap length e.after) ∙ e.len)))
+unfolding octets_at
+returns c = refl
