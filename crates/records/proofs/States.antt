@@ -30,6 +30,13 @@ control-of k b₁ false false true e₁ e₂ e₃ e₄ h = sym (eqb-true _ _ e�
 control-of k true false false false e₁ e₂ e₃ e₄ h = sym (eqb-true _ _ e₁)
 control-of k false false false false e₁ e₂ e₃ e₄ h = absurd (true≢false (sym h))
 
+pub control-listed : (st : FenceEntryState) → state_listed (control_of st) ≡ true
+unfolding state_listed
+control-listed InitialClosed = refl
+control-listed Active = refl
+control-listed TerminalClosed = refl
+control-listed Reclaiming = refl
+
 pub control-back : (k : ℕ) → state_listed k ≡ true → control_of (state_from k) ≡ k
 unfolding state_listed
 control-back k h = control-of k (eqb k (control_of InitialClosed)) (eqb k (control_of Active)) (eqb k (control_of TerminalClosed)) (eqb k (control_of Reclaiming)) refl refl refl refl h

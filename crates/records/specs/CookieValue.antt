@@ -7,6 +7,7 @@ use Rattle.records.specs.declared.entry.FenceEntryState.TheVariants.{InitialClos
 use Rattle.records.specs.declared.entry.FenceEntry.{FenceEntry}
 use Rattle.records.specs.declared.key.FenceCookieKey.{FenceCookieKey}
 use Rattle.records.specs.declared.cookie_value.FenceCookieValue.{FenceCookieValue}
+use Rattle.records.specs.declared.cookie_value.CookieValueFields.{CookieValueFields}
 use Rattle.records.specs.Key.{key_codec}
 use Rattle.records.specs.Entry.{control_of, state_from, state_listed, odd_token, deadline_fits, epoch_fits, entry, entry_codec}
 
@@ -33,6 +34,10 @@ cookie_value_codec = record {
   fields = λ v. 0 ∷ control_of v.state ∷ v.socket_cookie.0 ∷ v.durable_fence_token.0 ∷ v.deadline_boot_ns.0 ∷ v.control_epoch.0 ∷ [];
   blank = cookie_value InitialClosed 0 0 0 0;
 }
+
+-- the numbers of fields
+abbrev pub cookie_value_numbers : CookieValueFields → List ℕ
+cookie_value_numbers f = f.zeros ∷ f.control ∷ f.socket_cookie.0 ∷ f.durable_fence_token.0 ∷ f.deadline_boot_ns.0 ∷ f.control_epoch.0 ∷ []
 
 -- a value of its type
 abbrev pub CookieValueFormed : FenceCookieValue → Type 0

@@ -1,9 +1,11 @@
 -- Document 01, 'Record layouts': "Entry, 32: four zeros, control, token, deadline, epoch." Assumes nothing.
-use Rattle.std.specs.Prelude.{ℕ, ◌%◌, ◌^◌, ◌<◌, Bool, true, false, cond, not, [], ◌∷◌, get_or, eqb}
+use Rattle.std.specs.Prelude.{ℕ, ◌%◌, ◌^◌, ◌<◌, ◌≡◌, Bool, true, false, cond, not, List, [], ◌∷◌, get_or, eqb, Result, MatchResult}
 use Rattle.codec.specs.Words.{among, little, test, Codec}
 use Rattle.records.specs.declared.entry.FenceEntryState.{FenceEntryState}
 use Rattle.records.specs.declared.entry.FenceEntryState.TheVariants.{InitialClosed, Active, TerminalClosed, Reclaiming}
+use Rattle.records.specs.declared.entry.UnknownControl.{UnknownControl}
 use Rattle.records.specs.declared.entry.FenceEntry.{FenceEntry}
+use Rattle.records.specs.declared.entry.EntryFields.{EntryFields}
 
 -- the control word of each state
 abbrev pub control_of : FenceEntryState → ℕ
@@ -23,6 +25,10 @@ state_from k =
 -- a control word is one of the four
 unfoldable pub state_listed : ℕ → Bool
 state_listed k = among k (control_of InitialClosed ∷ control_of Active ∷ control_of TerminalClosed ∷ control_of Reclaiming ∷ [])
+
+-- what a word is read as: the state whose word it is, or a refusal with a word that is none of the four
+abbrev pub Names : ℕ → Result FenceEntryState UnknownControl → Type 0
+Names k r = MatchResult r (λ st. control_of st ≡ k) (λ e. (e.0 ≡ k) × (state_listed k ≡ false))
 
 -- "Token odd"
 abbrev pub odd_token : ℕ → Bool
@@ -52,6 +58,10 @@ entry_codec = record {
   fields = λ v. 0 ∷ control_of v.state ∷ v.durable_fence_token.0 ∷ v.deadline_boot_ns.0 ∷ v.control_epoch.0 ∷ [];
   blank = entry InitialClosed 0 0 0;
 }
+
+-- the numbers of fields
+abbrev pub entry_numbers : EntryFields → List ℕ
+entry_numbers f = f.zeros ∷ f.control ∷ f.durable_fence_token.0 ∷ f.deadline_boot_ns.0 ∷ f.control_epoch.0 ∷ []
 
 -- a value of its type
 abbrev pub EntryFormed : FenceEntry → Type 0

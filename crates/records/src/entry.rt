@@ -1,13 +1,18 @@
 // The state of one registered socket, 32 bytes.
-ghost use Rattle.std.specs.Prelude.{◌≡◌, ◌&&◌, [], ◌∷◌};
-ghost use Rattle.codec.specs.Words.{put, ok, bytes, Built, Decoded, Encoded, sound};
-ghost use Rattle.records.specs.Entry.{control_of, state_from, state_listed, odd_token, deadline_fits, epoch_fits, entry, entry_codec, closed, terminal, reclaiming};
+ghost use Rattle.std.specs.Prelude.{refl, ◌≡◌, ◌&&◌, [], ◌∷◌};
+ghost use Rattle.codec.specs.Answers.{Builds, Makes};
+ghost use Rattle.codec.specs.Words.{put, ok, laid};
+ghost use Rattle.codec.specs.declared.Refusal.TheVariants.{BrokenRule};
+ghost use Rattle.records.specs.Entry.{control_of, Names, odd_token, deadline_fits, epoch_fits, entry_codec, entry_numbers, closed, terminal, reclaiming};
 ghost use Rattle.records.specs.declared.entry.FenceEntryState.TheVariants.{InitialClosed, Active, TerminalClosed, Reclaiming};
 
+use codec::{Record, Refusal};
+use std::error::Error;
+use std::fmt;
 use units::{BootNs, ControlEpoch, DurableFenceToken};
 
 // The state of an entry.
-#[derive(Clone, Copy, Debug, PartialEq, Eq)]
+#[derive(Clone, Copy, Debug, PartialEq, Eq, Hash)]
 pub enum FenceEntryState {
     // Registered, and not yet opened.
     InitialClosed,
@@ -19,6 +24,10 @@ pub enum FenceEntryState {
     Reclaiming,
 }
 
+// A control word that stands for no state.
+#[derive(Clone, Copy, Debug, PartialEq, Eq, Hash)]
+pub struct UnknownControl(pub u32);
+
 // State, token, deadline and epoch of a registered socket.
 #[derive(Clone, Copy, Debug, PartialEq, Eq)]
 pub struct FenceEntry {
@@ -28,104 +37,47 @@ pub struct FenceEntry {
     pub control_epoch: ControlEpoch,
 }
 
-// What a constructor or the decoder answers: 0 and the record, or a refusal's number and the all-zero record.
+// The numbers of the layout's fields, as bytes or a constructor's arguments give them.
 #[derive(Clone, Copy, Debug, PartialEq, Eq)]
-pub struct EntryAnswer {
-    pub number: u32,
-    pub value: FenceEntry,
+pub struct EntryFields {
+    pub zeros: u32,
+    pub control: u32,
+    pub durable_fence_token: DurableFenceToken,
+    pub deadline_boot_ns: BootNs,
+    pub control_epoch: ControlEpoch,
 }
 
-// What a control word asks of token, deadline and epoch, for an entry and for a cookie value; a word that is not listed is refused.
-pub(crate) fn state_fits(
-    control: u32,
-    token: DurableFenceToken,
-    deadline: BootNs,
-    epoch: ControlEpoch,
-) -> bool
-    ensures { result ≡ (state_listed control && (odd_token token.0 && (deadline_fits control deadline.0 && epoch_fits control epoch.0))) }
-{
-    let until = deadline.0;
-    let number = epoch.0;
-    let fence = token.0;
-    if fence % 2 == 0 {
-        return false;
-    }
-    if control == FenceEntryState::ACTIVE {
-        return (until != 0) & (number != 0);
-    }
-    if control == FenceEntryState::INITIAL_CLOSED {
-        return (until == 0) & (number == FenceEntry::INITIAL_EPOCH);
-    }
-    if control == FenceEntryState::TERMINAL_CLOSED {
-        return (until == 0) & (number != 0);
-    }
-    if control == FenceEntryState::RECLAIMING {
-        return (until == 0) & (number != 0);
-    }
-    false
-}
-
-// Whether the five numbers of the layout obey its rule.
-pub fn rule(
-    zeros: u32,
-    control: u32,
-    token: DurableFenceToken,
-    deadline: BootNs,
-    epoch: ControlEpoch,
-) -> bool
-    ensures { result ≡ ok entry_codec (zeros ∷ control ∷ token.0 ∷ deadline.0 ∷ epoch.0 ∷ []) }
-{
-    zeros == 0 && state_fits(control, token, deadline, epoch)
-}
-
-fn answer(
-    number: u32,
-    state: FenceEntryState,
-    durable_fence_token: DurableFenceToken,
-    deadline_boot_ns: BootNs,
-    control_epoch: ControlEpoch,
-) -> EntryAnswer
-    ensures { (result.number ≡ number) × (result.value ≡ entry state durable_fence_token.0 deadline_boot_ns.0 control_epoch.0) }
-{
-    EntryAnswer {
-        number,
-        value: FenceEntry {
-            state,
-            durable_fence_token,
-            deadline_boot_ns,
-            control_epoch,
-        },
+impl fmt::Display for UnknownControl {
+    fn fmt<W: fmt::Write>(&self, f: &mut fmt::Formatter<W>) -> fmt::Result {
+        write!(f, "no state has the control word {:#010x}", self.0)
     }
 }
 
-// A refusal.
-fn refused(number: u32) -> EntryAnswer
-    ensures { (result.number ≡ number) × (result.value ≡ entry_codec.blank) }
-{
-    answer(
-        number,
-        FenceEntryState::InitialClosed,
-        DurableFenceToken(0),
-        BootNs(0),
-        ControlEpoch(0),
-    )
+impl Error for UnknownControl {}
+
+// A record with such a word breaks its rule.
+impl From<UnknownControl> for Refusal {
+    ghost from_gives = { λ _ e. e ≡ BrokenRule };
+
+    fn from(_e: UnknownControl) -> Refusal {
+        Refusal::BrokenRule
+    }
 }
 
-// What the five numbers of the layout give.
-fn from_fields(
-    zeros: u32,
-    control: u32,
-    token: DurableFenceToken,
-    deadline: BootNs,
-    epoch: ControlEpoch,
-) -> EntryAnswer
-    ensures { Built entry_codec (zeros ∷ control ∷ token.0 ∷ deadline.0 ∷ epoch.0 ∷ []) result.number result.value }
-{
-    if rule(zeros, control, token, deadline, epoch) {
-        let state = FenceEntryState::from_control(control);
-        answer(0, state, token, deadline, epoch)
-    } else {
-        refused(2)
+impl TryFrom<u32> for FenceEntryState {
+    type Error = UnknownControl;
+
+    ghost try_from_gives = { Names };
+
+    #[tactic(auto, unfolding(crate::specs::Entry::state_listed))]
+    fn try_from(control: u32) -> Result<Self, UnknownControl> {
+        match control {
+            FenceEntryState::INITIAL_CLOSED => Ok(FenceEntryState::InitialClosed),
+            FenceEntryState::ACTIVE => Ok(FenceEntryState::Active),
+            FenceEntryState::TERMINAL_CLOSED => Ok(FenceEntryState::TerminalClosed),
+            FenceEntryState::RECLAIMING => Ok(FenceEntryState::Reclaiming),
+            _ => Err(UnknownControl(control)),
+        }
     }
 }
 
@@ -154,41 +106,90 @@ impl FenceEntryState {
         }
     }
 
-    // The state of a word that the rule accepts.
-    pub(crate) fn from_control(control: u32) -> FenceEntryState
-        ensures { result ≡ state_from control }
+    // Whether the state is any but Active.
+    pub fn is_closed(self) -> bool
+        ensures { result ≡ closed self }
     {
-        if control == FenceEntryState::ACTIVE {
-            return FenceEntryState::Active;
+        self != FenceEntryState::Active
+    }
+
+    // What a state asks of token, deadline and epoch, in an entry and in a cookie value.
+    #[tactic(auto, unfolding(crate::specs::Entry::deadline_fits, crate::specs::Entry::epoch_fits))]
+    pub(crate) fn fits(
+        self,
+        token: DurableFenceToken,
+        deadline: BootNs,
+        epoch: ControlEpoch,
+    ) -> bool
+        ensures { result ≡ (odd_token token.0 && (deadline_fits (control_of self) deadline.0 && epoch_fits (control_of self) epoch.0)) }
+    {
+        if token.0 % 2 == 0 {
+            return false;
         }
-        if control == FenceEntryState::TERMINAL_CLOSED {
-            return FenceEntryState::TerminalClosed;
+        match self {
+            FenceEntryState::Active => (deadline.0 != 0) & (epoch.0 != 0),
+            FenceEntryState::InitialClosed => {
+                (deadline.0 == 0) & (epoch.0 == FenceEntry::INITIAL_EPOCH)
+            }
+            FenceEntryState::TerminalClosed | FenceEntryState::Reclaiming => {
+                (deadline.0 == 0) & (epoch.0 != 0)
+            }
         }
-        if control == FenceEntryState::RECLAIMING {
-            return FenceEntryState::Reclaiming;
+    }
+}
+
+impl EntryFields {
+    // Whether they obey the record's rule.
+    pub fn obey_rule(self) -> bool
+        ensures { result ≡ ok entry_codec (entry_numbers self) }
+    {
+        self.to_record().is_ok()
+    }
+
+    // The record that they stand for, or 2 where they break its rule.
+    pub fn to_record(self) -> Result<FenceEntry, Refusal>
+        ensures { Builds entry_codec (entry_numbers self) result }
+    {
+        let value = FenceEntry {
+            state: FenceEntryState::try_from(self.control)?,
+            durable_fence_token: self.durable_fence_token,
+            deadline_boot_ns: self.deadline_boot_ns,
+            control_epoch: self.control_epoch,
+        };
+        if self.zeros == 0 && value.is_sound() {
+            Ok(value)
+        } else {
+            Err(Refusal::BrokenRule)
         }
-        FenceEntryState::InitialClosed
+    }
+
+    // The numbers put at the start of a slice, each in its field; octets past the end are dropped. It does not ask for the rule.
+    pub fn write(self, out: &mut [u8])
+        ensures { out.new ≡ put out.old 0 (laid entry_codec.layout (entry_numbers self)) }
+    {
+        octets::put_u32_le(out, 0, self.zeros);
+        octets::put_u32_le(out, 4, self.control);
+        octets::put_u64_le(out, 8, self.durable_fence_token.0);
+        octets::put_u64_le(out, 16, self.deadline_boot_ns.0);
+        octets::put_u64_le(out, 24, self.control_epoch.0);
     }
 }
 
 impl FenceEntry {
-    // The length of the record's bytes.
-    pub const LEN: usize = 32;
-
     // The epoch of a fresh registration.
     pub const INITIAL_EPOCH: u64 = 1;
 
     // A fresh registration, or 2 where the token is not odd.
-    pub fn initial_closed(durable_fence_token: DurableFenceToken) -> EntryAnswer
-        ensures { Built entry_codec (0 ∷ control_of InitialClosed ∷ durable_fence_token.0 ∷ 0 ∷ 1 ∷ []) result.number result.value }
+    pub fn initial_closed(durable_fence_token: DurableFenceToken) -> Result<FenceEntry, Refusal>
+        ensures { Builds entry_codec (0 ∷ control_of InitialClosed ∷ durable_fence_token.0 ∷ 0 ∷ 1 ∷ []) result }
     {
-        from_fields(
-            0,
-            FenceEntryState::INITIAL_CLOSED,
+        FenceEntry {
+            state: FenceEntryState::InitialClosed,
             durable_fence_token,
-            BootNs(0),
-            ControlEpoch(FenceEntry::INITIAL_EPOCH),
-        )
+            deadline_boot_ns: BootNs(0),
+            control_epoch: ControlEpoch(FenceEntry::INITIAL_EPOCH),
+        }
+        .if_sound()
     }
 
     // An open entry, or 2 where the token is not odd, or deadline or epoch is 0.
@@ -196,53 +197,64 @@ impl FenceEntry {
         durable_fence_token: DurableFenceToken,
         deadline_boot_ns: BootNs,
         control_epoch: ControlEpoch,
-    ) -> EntryAnswer
-        ensures { Built entry_codec (0 ∷ control_of Active ∷ durable_fence_token.0 ∷ deadline_boot_ns.0 ∷ control_epoch.0 ∷ []) result.number result.value }
+    ) -> Result<FenceEntry, Refusal>
+        ensures { Builds entry_codec (0 ∷ control_of Active ∷ durable_fence_token.0 ∷ deadline_boot_ns.0 ∷ control_epoch.0 ∷ []) result }
     {
-        from_fields(
-            0,
-            FenceEntryState::ACTIVE,
+        FenceEntry {
+            state: FenceEntryState::Active,
             durable_fence_token,
             deadline_boot_ns,
             control_epoch,
-        )
+        }
+        .if_sound()
     }
 
     // An entry closed for good, or 2 where the token is not odd or the epoch is 0.
     pub fn terminal_closed(
         durable_fence_token: DurableFenceToken,
         control_epoch: ControlEpoch,
-    ) -> EntryAnswer
-        ensures { Built entry_codec (0 ∷ control_of TerminalClosed ∷ durable_fence_token.0 ∷ 0 ∷ control_epoch.0 ∷ []) result.number result.value }
+    ) -> Result<FenceEntry, Refusal>
+        ensures { Builds entry_codec (0 ∷ control_of TerminalClosed ∷ durable_fence_token.0 ∷ 0 ∷ control_epoch.0 ∷ []) result }
     {
-        from_fields(
-            0,
-            FenceEntryState::TERMINAL_CLOSED,
+        FenceEntry {
+            state: FenceEntryState::TerminalClosed,
             durable_fence_token,
-            BootNs(0),
+            deadline_boot_ns: BootNs(0),
             control_epoch,
-        )
+        }
+        .if_sound()
     }
 
     // An entry about to be deleted, or 2 where the token is not odd or the epoch is 0.
     pub fn reclaiming(
         durable_fence_token: DurableFenceToken,
         control_epoch: ControlEpoch,
-    ) -> EntryAnswer
-        ensures { Built entry_codec (0 ∷ control_of Reclaiming ∷ durable_fence_token.0 ∷ 0 ∷ control_epoch.0 ∷ []) result.number result.value }
+    ) -> Result<FenceEntry, Refusal>
+        ensures { Builds entry_codec (0 ∷ control_of Reclaiming ∷ durable_fence_token.0 ∷ 0 ∷ control_epoch.0 ∷ []) result }
     {
-        from_fields(
-            0,
-            FenceEntryState::RECLAIMING,
+        FenceEntry {
+            state: FenceEntryState::Reclaiming,
             durable_fence_token,
-            BootNs(0),
+            deadline_boot_ns: BootNs(0),
             control_epoch,
-        )
+        }
+        .if_sound()
+    }
+
+    // The record itself, or 2 where it is unsound.
+    fn if_sound(self) -> Result<FenceEntry, Refusal>
+        ensures { Makes entry_codec self result }
+    {
+        if self.is_sound() {
+            Ok(self)
+        } else {
+            Err(Refusal::BrokenRule)
+        }
     }
 
     // The state.
     pub fn state(self) -> FenceEntryState
-        ensures { control_of result ≡ control_of self.state }
+        ensures { result ≡ self.state }
     {
         self.state
     }
@@ -272,87 +284,68 @@ impl FenceEntry {
     pub fn is_closed(self) -> bool
         ensures { result ≡ closed self.state }
     {
-        let state = self.state;
-        match state {
-            FenceEntryState::InitialClosed => true,
-            FenceEntryState::Active => false,
-            FenceEntryState::TerminalClosed => true,
-            FenceEntryState::Reclaiming => true,
-        }
+        self.state.is_closed()
     }
 
     // Whether the entry is closed for good.
     pub fn is_terminal(self) -> bool
         ensures { result ≡ terminal self.state }
     {
-        let state = self.state;
-        match state {
-            FenceEntryState::InitialClosed => false,
-            FenceEntryState::Active => false,
-            FenceEntryState::TerminalClosed => true,
-            FenceEntryState::Reclaiming => false,
-        }
+        self.state == FenceEntryState::TerminalClosed
     }
 
     // Whether the entry is about to be deleted.
     pub fn is_reclaiming(self) -> bool
         ensures { result ≡ reclaiming self.state }
     {
-        let state = self.state;
-        match state {
-            FenceEntryState::InitialClosed => false,
-            FenceEntryState::Active => false,
-            FenceEntryState::TerminalClosed => false,
-            FenceEntryState::Reclaiming => true,
+        self.state == FenceEntryState::Reclaiming
+    }
+
+    // The numbers that the record is written with.
+    pub fn fields(self) -> EntryFields
+        ensures { entry_numbers result ≡ entry_codec.fields self }
+    {
+        EntryFields {
+            zeros: 0,
+            control: self.state.control(),
+            durable_fence_token: self.durable_fence_token,
+            deadline_boot_ns: self.deadline_boot_ns,
+            control_epoch: self.control_epoch,
         }
     }
+}
 
-    // Whether the decoder gives this record for some bytes.
-    pub fn is_sound(self) -> bool
-        ensures { result ≡ sound entry_codec self }
-    {
-        let state = self.state;
-        let token = self.durable_fence_token;
-        let deadline = self.deadline_boot_ns;
-        let epoch = self.control_epoch;
-        rule(0, state.control(), token, deadline, epoch)
+impl Record for FenceEntry {
+    ghost codec = { entry_codec };
+
+    const LEN: usize = 32;
+
+    ghost LEN = { 32 };
+
+    ghost sized = { refl };
+
+    ghost counted = { λ v. refl };
+
+    fn is_sound(self) -> bool {
+        self.state.fits(
+            self.durable_fence_token,
+            self.deadline_boot_ns,
+            self.control_epoch,
+        )
     }
 
-    // The record of its bytes: 1 for another length, 2 where they break its rule.
-    pub fn decode(s: &[u8]) -> EntryAnswer
-        ensures { Decoded entry_codec s.now result.number result.value }
-    {
-        if s.len() != FenceEntry::LEN {
-            return refused(1);
+    fn read(s: &[u8]) -> Result<FenceEntry, Refusal> {
+        EntryFields {
+            zeros: octets::get_u32_le(s, 0),
+            control: octets::get_u32_le(s, 4),
+            durable_fence_token: DurableFenceToken(octets::get_u64_le(s, 8)),
+            deadline_boot_ns: BootNs(octets::get_u64_le(s, 16)),
+            control_epoch: ControlEpoch(octets::get_u64_le(s, 24)),
         }
-        let zeros = octets::get_u32_le(s, 0);
-        let control = octets::get_u32_le(s, 4);
-        let token = DurableFenceToken(octets::get_u64_le(s, 8));
-        let deadline = BootNs(octets::get_u64_le(s, 16));
-        let epoch = ControlEpoch(octets::get_u64_le(s, 24));
-        from_fields(zeros, control, token, deadline, epoch)
+        .to_record()
     }
 
-    // Puts the record's bytes at the start of `out`: 3 where it is unsound, 4 where there is too little room, and then nothing is put.
-    pub fn encode(self, out: &mut [u8]) -> u32
-        ensures { Encoded entry_codec self out.old result out.new }
-    {
-        let number = codec::encode_number(self.is_sound(), FenceEntry::LEN, out.len());
-        if number == 0 {
-            self.write(out);
-        }
-        number
-    }
-
-    // The record's fields, put at the start.
-    fn write(self, out: &mut [u8])
-        ensures { out.new ≡ put out.old 0 (bytes entry_codec self) }
-    {
-        let state = self.state;
-        octets::put_u32_le(out, 0, 0);
-        octets::put_u32_le(out, 4, state.control());
-        octets::put_u64_le(out, 8, self.durable_fence_token.0);
-        octets::put_u64_le(out, 16, self.deadline_boot_ns.0);
-        octets::put_u64_le(out, 24, self.control_epoch.0);
+    fn write(self, out: &mut [u8]) {
+        self.fields().write(out);
     }
 }

@@ -1,7 +1,7 @@
 -- `write`: one store for each field, in the order of the layout. Assumes nothing.
 use Rattle.codec.proofs.LayoutLaws.{puts-laid}
 use Rattle.records.specs.Key.{key_codec}
-use Rattle.records.proofs.key.FenceCookieKey.write.Goals as goal
+use Rattle.records.proofs.key.FenceCookieKeyRecord.write.Goals as goal
 
 pub returns : goal.returns
 returns c =

@@ -1,9 +1,0 @@
--- `write`: one store for each field, in the order of the layout. Assumes nothing.
-use Rattle.codec.proofs.LayoutLaws.{puts-laid}
-use Rattle.records.specs.CookieValue.{cookie_value_codec}
-use Rattle.records.proofs.cookie_value.FenceCookieValue.write.Goals as goal
-
-pub returns : goal.returns
-returns c =
-    let a = c.args in
-    rw (c.put_u64_le-4.ensures, c.put_u64_le-3.ensures, c.put_u64_le-2.ensures, c.put_u64_le.ensures, c.put_u32_le-2.ensures, c.put_u32_le.ensures, c.control.ensures) (puts-laid cookie_value_codec.layout (cookie_value_codec.fields a.self) a.out.now 0)

@@ -1,9 +1,0 @@
--- `decode`: the length first, then the fields, whose numbers are those of the layout. Assumes nothing.
-use Rattle.codec.proofs.CodecLaws.{refl, decode-length, decode-read}
-use Rattle.records.proofs.key.FenceCookieKey.decode.Goals as goal
-
-pub returns-then-s-ne-LEN : goal.returns-then-s-ne-LEN
-returns-then-s-ne-LEN c = decode-length c.if-s-ne-LEN.true (refl, refl)
-
-pub returns : goal.returns
-returns c = decode-read c.if-s-ne-LEN.false (rw (← c.get_u64_le-cookie.ensures, ← c.get_u64_le-token.ensures) c.new.ensures)
