@@ -30,10 +30,10 @@ pub struct FenceInspection {
 fn head_is_right(head: Head) -> bool
     ensures { result ≡ passes front_tests (head_numbers head) }
 {
-    let flag = head.byte;
     (head.mark == FenceInspection::MARK)
-        & ((head.version == FenceInspection::VERSION)
-            & (((flag == 0) | (flag == 1)) & (head.zero == 0)))
+        & (head.version == FenceInspection::VERSION)
+        & matches!(head.byte, 0 | 1)
+        & (head.zero == 0)
 }
 
 impl FenceInspection {
