@@ -101,3 +101,9 @@ fields-injective x y e =
 
 pub current-fields-determined : Determined current.fields.Kinds.ps current.fields.Kinds.r current.fields.Reads.Learnt
 current-fields-determined κs a x y u v = as-numbered current_numbers fields-injective x y
+
+pub current-blank-determined : Determined current-record.blank.Kinds.ps current-record.blank.Kinds.r current-record.blank.Reads.Learnt
+current-blank-determined κs a x y u v = as-told
+
+pub mutation-blank-determined : Determined mutation-record.blank.Kinds.ps mutation-record.blank.Kinds.r mutation-record.blank.Reads.Learnt
+mutation-blank-determined κs a x y u v = as-told

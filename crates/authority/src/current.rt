@@ -63,10 +63,10 @@ impl CurrentFields {
     pub fn write(self, out: &mut [u8])
         ensures { out.new ≡ put out.old 0 (laid current_codec.layout (current_numbers self)) }
     {
-        octets::put_u32_le(out, 0, self.zeros);
-        octets::put_u32_le(out, 4, self.control);
-        octets::put_u64_le(out, 8, self.durable_fence_token.0);
-        octets::put_u64_le(out, 16, self.registered_socket_cookie.0);
+        octets::put_le::<u32>(out, 0, self.zeros);
+        octets::put_le::<u32>(out, 4, self.control);
+        octets::put_le::<u64>(out, 8, self.durable_fence_token.0);
+        octets::put_le::<u64>(out, 16, self.registered_socket_cookie.0);
     }
 }
 
@@ -203,16 +203,20 @@ impl Record for CurrentFenceToken {
 
     ghost counted = { λ v. refl };
 
+    fn blank() -> CurrentFenceToken {
+        CurrentFenceToken::initial()
+    }
+
     fn is_sound(self) -> bool {
         self.fields().obey_rule()
     }
 
     fn read(s: &[u8]) -> Result<CurrentFenceToken, Refusal> {
         CurrentFields {
-            zeros: octets::get_u32_le(s, 0),
-            control: octets::get_u32_le(s, 4),
-            durable_fence_token: DurableFenceToken(octets::get_u64_le(s, 8)),
-            registered_socket_cookie: SocketCookie(octets::get_u64_le(s, 16)),
+            zeros: octets::get_le::<u32>(s, 0),
+            control: octets::get_le::<u32>(s, 4),
+            durable_fence_token: DurableFenceToken(octets::get_le::<u64>(s, 8)),
+            registered_socket_cookie: SocketCookie(octets::get_le::<u64>(s, 16)),
         }
         .to_record()
     }

@@ -64,6 +64,10 @@ impl Record for FenceMutationAuthority {
 
     ghost counted = { λ v. refl };
 
+    fn blank() -> FenceMutationAuthority {
+        FenceMutationAuthority::initial()
+    }
+
     // A claim is the one after the generation; nothing is after the last.
     fn is_sound(self) -> bool {
         let generation = self.generation;
@@ -72,13 +76,13 @@ impl Record for FenceMutationAuthority {
     }
 
     fn read(s: &[u8]) -> Result<FenceMutationAuthority, Refusal> {
-        let generation = octets::get_u64_le(s, 0);
-        let claim = octets::get_u64_le(s, 8);
+        let generation = octets::get_le::<u64>(s, 0);
+        let claim = octets::get_le::<u64>(s, 8);
         FenceMutationAuthority::new(generation, claim)
     }
 
     fn write(self, out: &mut [u8]) {
-        octets::put_u64_le(out, 0, self.generation);
-        octets::put_u64_le(out, 8, self.in_flight_claim);
+        octets::put_le::<u64>(out, 0, self.generation);
+        octets::put_le::<u64>(out, 8, self.in_flight_claim);
     }
 }

@@ -91,6 +91,10 @@ pub trait Record: Copy {
 
     ghost LEN: { ℕ };
 
+    // The all-zero record, which stands for one that was refused.
+    fn blank() -> Self
+        ensures { result ≡ codec.blank };
+
     // Whether the decoder gives this record for some bytes.
     fn is_sound(self) -> bool
         ensures { result ≡ sound codec self };
@@ -134,8 +138,8 @@ pub fn get_head(s: &[u8]) -> Head
     ensures { head_numbers result ≡ fields_at head_layout s.now 0 }
 {
     Head {
-        mark: octets::get_u32_be(s, 0),
-        version: octets::get_u16_le(s, 4),
+        mark: octets::get_be::<u32>(s, 0),
+        version: octets::get_le::<u16>(s, 4),
         byte: octets::get_u8(s, 6),
         zero: octets::get_u8(s, 7),
     }
@@ -145,8 +149,8 @@ pub fn get_head(s: &[u8]) -> Head
 pub fn put_head(out: &mut [u8], mark: u32, version: u16, byte: u8)
     ensures { out.new ≡ put out.old 0 (laid head_layout (head_fields mark version byte)) }
 {
-    octets::put_u32_be(out, 0, mark);
-    octets::put_u16_le(out, 4, version);
+    octets::put_be::<u32>(out, 0, mark);
+    octets::put_le::<u16>(out, 4, version);
     octets::put_u8(out, 6, byte);
     octets::put_u8(out, 7, 0);
 }

@@ -3,7 +3,7 @@
 use Rattle.octets.specs.Words.{ℕ, ◌+◌, ◌≡◌, List, ◌++◌, length, replicate}
 use Rattle.octets.specs.Octets.{Bytes, octets_at, put, le, le_bytes}
 use Rattle.octets.proofs.Tools.{refl, sym, ap, ◌∙◌}
-use Rattle.octets.proofs.OctetsLaws.{length-octets, length-le_bytes, octets-append, octets-whole, le_bytes-le, Bytes-octets, put-append}
+use Rattle.octets.proofs.OctetsLaws.{length-octets, octets-append, octets-whole, le_bytes-le, Bytes-octets}
 
 -- octets of a slice, from their number
 pub octets-back : (s : List ℕ) (at n : ℕ) → Bytes s → le_bytes n (le (octets_at s at n)) ≡ octets_at s at n
@@ -11,6 +11,10 @@ octets-back s at n h = rw length-octets at (le_bytes-le (octets_at s at n) (Byte
 
 pub address-back : (a : List ℕ) → length a ≡ 16 → Bytes a → le_bytes 16 (le (octets_at a 0 16)) ≡ a
 address-back a e h = octets-back a 0 16 h ∙ octets-whole a 16 e
+
+-- the octets of an address, put as those of its number
+pub put-address : (a d : List ℕ) (at : ℕ) → length a ≡ 16 → Bytes a → put d at a ≡ put d at (le_bytes 16 (le (octets_at a 0 16)))
+put-address a d at e h = ap (λ (b : List ℕ). put d at b) (sym (address-back a e h))
 
 -- sixteen octets, from the numbers of eight and eight
 halves : (s : List ℕ) (at : ℕ) → Bytes s → octets_at s at 16 ≡ le_bytes 8 (le (octets_at s at 8)) ++ le_bytes 8 (le (octets_at s (at + 8) 8))
@@ -30,8 +34,3 @@ pub stored-halves : (s : List ℕ) (at : ℕ) {a b : ℕ} {d e : List ℕ} → B
     d ≡ put (replicate 16 0) 0 (le_bytes 8 a) → e ≡ put d 8 (le_bytes 8 b) → e ≡ octets_at s at 16
 stored-halves s at {a} {b} h p q f g =
     g ∙ ap (λ l. put l 8 (le_bytes 8 b)) f ∙ (λ i. put (put (replicate 16 0) 0 (le_bytes 8 (p i))) 8 (le_bytes 8 (q i))) ∙ read-halves s at h
-
--- and written so
-pub put-halves : (a d : List ℕ) (at : ℕ) → Bytes a →
-    put (put d at (le_bytes 8 (le (octets_at a 0 8)))) (at + 8) (le_bytes 8 (le (octets_at a 8 8))) ≡ put d at (le_bytes 16 (le (octets_at a 0 16)))
-put-halves a d at h = rw (octets-back a 0 16 h, halves a 0 h, put-append, length-le_bytes)

@@ -1,13 +1,11 @@
-// The configuration, 40 bytes: the protected endpoint, the root cgroup of the attachment, and the cookie map's capacity. The numbers
-// given back are those of `records`.
+// The configuration, 40 bytes: the protected endpoint, the root cgroup of the attachment, and the cookie map's capacity.
 #![tactic(auto)]
 
-ghost use Rattle.std.specs.Prelude.{◌≡◌, ◌&&◌};
-ghost use Rattle.octets.specs.Octets.{octets_at, put};
-ghost use Rattle.codec.specs.Codec.{Made, Decoded, Encoded, sound, bytes};
-ghost use Rattle.config.specs.Config.{version_listed, capacity_fits, config, config_codec};
-ghost use Rattle.config.specs.Inner.Steps.{frame_fits};
+ghost use Rattle.std.specs.Prelude.{refl, ◌≡◌};
+ghost use Rattle.codec.specs.Answers.{Makes};
+ghost use Rattle.config.specs.Config.{config, config_codec};
 
+use codec::{Record, Refusal};
 use endpoint::ProtectedEndpoint;
 use units::RootCgroupId;
 
@@ -19,69 +17,7 @@ pub struct FenceConfig {
     pub capacity: u32,
 }
 
-// What a constructor or the decoder answers: 0 and the record, or a refusal's number and the all-zero record.
-#[derive(Clone, Copy, Debug, PartialEq, Eq)]
-pub struct ConfigAnswer {
-    pub number: u32,
-    pub value: FenceConfig,
-}
-
-// Whether a version is taken, and with this capacity.
-fn version_rule(version: u16, capacity: u32) -> bool
-    ensures { result ≡ (version_listed version && capacity_fits version capacity) }
-{
-    (version == FenceConfig::VERSION) & (capacity == FenceConfig::CAPACITY)
-}
-
-// What is asked of the fields that are no part of the endpoint.
-fn frame_rule(
-    mark: u32,
-    version: u16,
-    zero: u8,
-    zeros: u16,
-    capacity: u32,
-    root: RootCgroupId,
-) -> bool
-    ensures { result ≡ frame_fits mark version zero zeros capacity root.0 }
-{
-    (mark == FenceConfig::MARK)
-        & ((zero == 0) & ((zeros == 0) & (version_rule(version, capacity) & (root.0 != 0))))
-}
-
-// A refusal.
-fn refused(number: u32) -> ConfigAnswer
-    ensures { (result.number ≡ number) × (result.value ≡ config_codec.blank) }
-{
-    ConfigAnswer {
-        number,
-        value: FenceConfig {
-            endpoint: ProtectedEndpoint {
-                family: 0,
-                address: [0; 16],
-                port: 0,
-            },
-            root_cgroup_id: RootCgroupId(0),
-            capacity: 0,
-        },
-    }
-}
-
-// The sixteen octets of the address, read as two numbers of eight.
-fn address_at(s: &[u8]) -> [u8; 16]
-    ensures { result ≡ octets_at s.now 24 16 }
-{
-    let first = octets::get_u64_le(s, 24);
-    let second = octets::get_u64_le(s, 32);
-    let mut address = [0u8; 16];
-    octets::put_u64_le(&mut address, 0, first);
-    octets::put_u64_le(&mut address, 8, second);
-    address
-}
-
 impl FenceConfig {
-    // The length of the record's bytes.
-    pub const LEN: usize = 40;
-
     // "OEF1", first octet first.
     pub const MARK: u32 = 0x4f45_4631;
 
@@ -96,8 +32,8 @@ impl FenceConfig {
         endpoint: ProtectedEndpoint,
         root_cgroup_id: RootCgroupId,
         capacity: u32,
-    ) -> ConfigAnswer
-        ensures { Made config_codec (config endpoint root_cgroup_id.0 capacity) result.number result.value }
+    ) -> Result<FenceConfig, Refusal>
+        ensures { Makes config_codec (config endpoint root_cgroup_id.0 capacity) result }
     {
         let value = FenceConfig {
             endpoint,
@@ -105,9 +41,9 @@ impl FenceConfig {
             capacity,
         };
         if value.is_sound() {
-            ConfigAnswer { number: 0, value }
+            Ok(value)
         } else {
-            refused(2)
+            Err(Refusal::BrokenRule)
         }
     }
 
@@ -131,97 +67,66 @@ impl FenceConfig {
     {
         self.capacity
     }
+}
 
-    // Whether the decoder gives this record for some bytes: capacity, root cgroup, and the endpoint's own rules.
-    pub fn is_sound(self) -> bool
-        ensures { result ≡ sound config_codec self }
-    {
-        let endpoint = self.endpoint;
-        let root = self.root_cgroup_id;
-        if !version_rule(FenceConfig::VERSION, self.capacity) {
-            return false;
+impl Record for FenceConfig {
+    ghost codec = { config_codec };
+
+    const LEN: usize = 40;
+
+    ghost LEN = { 40 };
+
+    ghost sized = { refl };
+
+    ghost counted = { λ v. refl };
+
+    fn blank() -> FenceConfig {
+        FenceConfig {
+            endpoint: ProtectedEndpoint::blank(),
+            root_cgroup_id: RootCgroupId(0),
+            capacity: 0,
         }
-        if root.0 == 0 {
-            return false;
-        }
-        endpoint.is_sound()
     }
 
-    // The record that bytes stand for. The frame is asked first, then the endpoint.
-    pub fn decode(s: &[u8]) -> ConfigAnswer
-        ensures { Decoded config_codec s.now result.number result.value }
-    {
-        if s.len() != FenceConfig::LEN {
-            return refused(1);
-        }
+    // Capacity, root cgroup, and the endpoint's own rules.
+    fn is_sound(self) -> bool {
+        (self.capacity == FenceConfig::CAPACITY) & (self.root_cgroup_id.0 != 0)
+            && self.endpoint.is_sound()
+    }
+
+    // The frame is asked first, then the parts.
+    fn read(s: &[u8]) -> Result<FenceConfig, Refusal> {
         let head = codec::get_head(s);
-        let port = octets::get_u16_be(s, 8);
-        let zeros = octets::get_u16_le(s, 10);
-        let capacity = octets::get_u32_le(s, 12);
-        let root_cgroup_id = RootCgroupId(octets::get_u64_le(s, 16));
-        if !frame_rule(
-            head.mark,
-            head.version,
-            head.zero,
-            zeros,
-            capacity,
-            root_cgroup_id,
-        ) {
-            return refused(2);
+        let zeros = octets::get_le::<u16>(s, 10);
+        let framed = (head.mark == FenceConfig::MARK)
+            & (head.version == FenceConfig::VERSION)
+            & (head.zero == 0)
+            & (zeros == 0);
+        if !framed {
+            return Err(Refusal::BrokenRule);
         }
-        let address = address_at(s);
         let endpoint = ProtectedEndpoint {
             family: head.byte,
-            address,
-            port,
+            address: octets::array_at::<16>(s, 24),
+            port: octets::get_be::<u16>(s, 8),
         };
-        if !endpoint.is_sound() {
-            return refused(2);
-        }
-        ConfigAnswer {
-            number: 0,
-            value: FenceConfig {
-                endpoint,
-                root_cgroup_id,
-                capacity,
-            },
-        }
+        let capacity = octets::get_le::<u32>(s, 12);
+        let root_cgroup_id = RootCgroupId(octets::get_le::<u64>(s, 16));
+        FenceConfig::new(endpoint, root_cgroup_id, capacity)
     }
 
-    // The record's fields, put at the start.
-    fn write(self, out: &mut [u8])
-        ensures { out.new ≡ put out.old 0 (bytes config_codec self) }
-    {
+    fn write(self, out: &mut [u8]) {
         let endpoint = self.endpoint;
-        let root = self.root_cgroup_id;
-        let address = endpoint.address;
-        let first = octets::get_u64_le(&address, 0);
-        let second = octets::get_u64_le(&address, 8);
         codec::put_head(
             out,
             FenceConfig::MARK,
             FenceConfig::VERSION,
             endpoint.family,
         );
-        octets::put_u16_be(out, 8, endpoint.port);
-        octets::put_u16_le(out, 10, 0);
-        octets::put_u32_le(out, 12, self.capacity);
-        octets::put_u64_le(out, 16, root.0);
-        octets::put_u64_le(out, 24, first);
-        octets::put_u64_le(out, 32, second);
-    }
-
-    // The record's bytes, written at the start.
-    pub fn encode(self, out: &mut [u8]) -> u32
-        ensures { Encoded config_codec self out.old result out.new }
-    {
-        if !self.is_sound() {
-            return 3;
-        }
-        if out.len() < FenceConfig::LEN {
-            return 4;
-        }
-        self.write(out);
-        0
+        octets::put_be::<u16>(out, 8, endpoint.port);
+        octets::put_le::<u16>(out, 10, 0);
+        octets::put_le::<u32>(out, 12, self.capacity);
+        octets::put_le::<u64>(out, 16, self.root_cgroup_id.0);
+        octets::put_octets(out, 24, &endpoint.address);
     }
 }

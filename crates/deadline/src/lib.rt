@@ -45,20 +45,15 @@ pub fn evaluate_refresh_deadlines(
 ) -> RefreshDeadlineDecision
     ensures { decision_number result ≡ refresh_decision observed_at.0 prior_deadline.0 requested_deadline.0 }
 {
-    let observed = observed_at.0;
-    let prior = prior_deadline.0;
-    let requested = requested_deadline.0;
-    if prior <= observed {
-        return RefreshDeadlineDecision::PriorExpired;
+    if prior_deadline <= observed_at {
+        RefreshDeadlineDecision::PriorExpired
+    } else if requested_deadline <= observed_at
+        || EGRESS_FENCE_MAX_GATE_LIFETIME_NS < requested_deadline.0 - observed_at.0
+    {
+        RefreshDeadlineDecision::RequestedDeadlineInvalid
+    } else if requested_deadline < prior_deadline {
+        RefreshDeadlineDecision::DeadlineRegressed
+    } else {
+        RefreshDeadlineDecision::Apply
     }
-    if requested <= observed {
-        return RefreshDeadlineDecision::RequestedDeadlineInvalid;
-    }
-    if EGRESS_FENCE_MAX_GATE_LIFETIME_NS < requested - observed {
-        return RefreshDeadlineDecision::RequestedDeadlineInvalid;
-    }
-    if requested < prior {
-        return RefreshDeadlineDecision::DeadlineRegressed;
-    }
-    RefreshDeadlineDecision::Apply
 }

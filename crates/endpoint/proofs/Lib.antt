@@ -1,4 +1,3 @@
 -- What is shown of `endpoint` beside the proofs of its functions. Assumes nothing.
-pub mod MatchLaws
 pub mod ZeroLaws
 pub mod Unique

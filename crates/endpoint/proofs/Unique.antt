@@ -4,6 +4,9 @@ use Rattle.octets.specs.Determined.{Determined}
 use Rattle.octets.proofs.UniqueLaws.{as-told}
 use Rattle.endpoint.proofs as the
 
+pub blank-determined : Determined the.ProtectedEndpoint.blank.Kinds.ps the.ProtectedEndpoint.blank.Kinds.r the.ProtectedEndpoint.blank.Reads.Learnt
+blank-determined κs a x y u v = as-told
+
 pub is-sound-determined : Determined the.ProtectedEndpoint.is_sound.Kinds.ps the.ProtectedEndpoint.is_sound.Kinds.r the.ProtectedEndpoint.is_sound.Reads.Learnt
 is-sound-determined κs a x y u v = as-told
 

@@ -1,8 +1,9 @@
 -- Document 01, 'Endpoint rules': which addresses and ports may be protected, and when a source matches. Assumes nothing.
-use Rattle.std.specs.Prelude.{ℕ, ◌/◌, Bool, true, cond, not, ◌&&◌, ◌||◌, List, ◌++◌, get_or, replicate, eqb, ltb}
+use Rattle.std.specs.Prelude.{ℕ, ◌/◌, Bool, true, cond, not, ◌&&◌, ◌||◌, List, ◌++◌, get_or, replicate, eqb, ltb, Result, Ok, Err}
 use Rattle.octets.specs.Octets.{octets_at, all_zero, same_octets}
 use Rattle.endpoint.specs.declared.ProtectedEndpoint.{ProtectedEndpoint}
-use Rattle.endpoint.specs.declared.EndpointAnswer.{EndpointAnswer}
+use Rattle.codec.specs.declared.Refusal.{Refusal}
+use Rattle.codec.specs.declared.Refusal.TheVariants.{BrokenRule}
 
 -- 0.0.0.0, and a first byte of 224 or more (multicast, reserved and broadcast), are refused
 unfoldable pub usable_ipv4 : List ℕ → Bool
@@ -41,13 +42,13 @@ unfoldable pub sound_endpoint : ProtectedEndpoint → Bool
 sound_endpoint e =
     port_usable e.port && (family_listed e.family && (address_usable e.family e.address && spare_zero e.family e.address))
 
--- the all-zero record of a refusal
+-- the all-zero record, which stands beside the number of a refusal (01, 'Numbers given back')
 abbrev pub blank : ProtectedEndpoint
 blank = record { family = 0; address = replicate 16 0; port = 0 }
 
--- what a constructor answers (01, 'Numbers given back'): 0 and the endpoint, or 2 and the all-zero record
-unfoldable pub made : ProtectedEndpoint → EndpointAnswer
-made e = cond (sound_endpoint e) (record { number = 0; endpoint = e }) (record { number = 2; endpoint = blank })
+-- what a constructor answers: the endpoint, or the refusal whose number is 2
+unfoldable pub made : ProtectedEndpoint → Result ProtectedEndpoint Refusal
+made e = cond (sound_endpoint e) (Ok e) (Err BrokenRule)
 
 -- an IPv4 endpoint has its address in the first four bytes; the spare bytes are zero
 abbrev pub ipv4_of : List ℕ → ℕ → ProtectedEndpoint

@@ -18,6 +18,7 @@ use Rattle.verdict.specs.declared.FenceVerdict.{FenceVerdict}
 use Rattle.verdict.specs.declared.FenceVerdict.TheVariants.{PassUnrelated, Allow, DropCookieZero, DropMissing, DropClosed, DropExpired, DropStaleToken, DropMalformed}
 use Rattle.verdict.specs.declared.CounterSlot.{CounterSlot}
 use Rattle.gate.specs.declared.Socket.{Socket}
+use Rattle.gate.specs.declared.GateCall.{GateCall}
 use Rattle.gate.specs.declared.GateAnswer.{GateAnswer}
 use Rattle.table.specs.Table.{admissible, records, under, first_of}
 
@@ -36,6 +37,9 @@ pub record Call : Type 0 where
 -- the same, as the functions are handed it
 abbrev pub given : List ℕ → ℕ → Socket → List ℕ → ℕ → List ℕ → List ℕ → ℕ → Call
 given g n s p k u t b = record { config = g; attachment = n; socket = s; packet = p; cookie = k; current = u; table = t; time = b }
+
+abbrev pub call_of : GateCall → Call
+call_of c = given c.config.now c.attachment.0 c.socket c.packet.now c.cookie.0 c.current.now c.table.now c.now_boot_ns.0
 
 -- a record's bytes decode
 abbrev pub decodes : {R : Type 0} → Codec R → List ℕ → Bool

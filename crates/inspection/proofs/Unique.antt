@@ -40,3 +40,6 @@ decode-determined κs a x y u v = as-decoded x y
 
 pub encode-determined : Determined inspection-record.encode.Kinds.ps inspection-record.encode.Kinds.r inspection-record.encode.Reads.Learnt
 encode-determined κs a x y u v = as-encoded x y u v refl refl
+
+pub blank-determined : Determined inspection-record.blank.Kinds.ps inspection-record.blank.Kinds.r inspection-record.blank.Reads.Learnt
+blank-determined κs a x y u v = as-told

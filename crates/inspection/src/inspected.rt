@@ -7,7 +7,7 @@ ghost use Rattle.records.specs.CookieValue.{cookie_value_codec};
 ghost use Rattle.inspection.specs.Inspected.{present_flag, part_fields, sound_part};
 ghost use Rattle.inspection.specs.Inner.Steps.{part_codec};
 
-use crate::parts::{put_zeros, read_at, write_at};
+use crate::parts::{read_at, write_at};
 use codec::{Record, Refusal};
 use records::cookie_value::FenceCookieValue;
 
@@ -47,7 +47,7 @@ pub(crate) fn write(entry: Option<FenceCookieValue>, out: &mut [u8])
     ensures { out.new ≡ put out.old 48 (laid cookie_value_codec.layout (part_fields entry)) }
 {
     match entry {
-        None => put_zeros(out, 48),
+        None => octets::put_zeros(out, 48, FenceCookieValue::LEN),
         Some(value) => write_at(value, out, 48),
     }
 }

@@ -12,7 +12,7 @@ ghost use Rattle.codec.specs.Answers.{Makes};
 ghost use Rattle.codec.specs.Head.{head_numbers};
 ghost use Rattle.inspection.specs.Inspection.{inspection, front_tests, inspection_codec};
 
-use crate::parts::{put_zeros, read_at, write_at};
+use crate::parts::{read_at, write_at};
 use authority::current::CurrentFenceToken;
 use authority::mutation::FenceMutationAuthority;
 use codec::{Head, Record, Refusal};
@@ -96,6 +96,14 @@ impl Record for FenceInspection {
 
     ghost counted = { λ v. elim v.entry as (λ e. length (inspection_codec.fields (inspection v.current v.mutation e)) ≡ length inspection_codec.layout) [ None ↦ refl | Some w ↦ refl ] };
 
+    fn blank() -> FenceInspection {
+        FenceInspection {
+            current: CurrentFenceToken::blank(),
+            mutation: FenceMutationAuthority::blank(),
+            entry: None,
+        }
+    }
+
     fn is_sound(self) -> bool {
         self.current.is_sound() && (self.mutation.is_sound() && inspected::is_sound(self.entry))
     }
@@ -127,6 +135,6 @@ impl Record for FenceInspection {
         write_at(self.current, out, 8);
         write_at(self.mutation, out, 32);
         inspected::write(self.entry, out);
-        put_zeros(out, 88);
+        octets::put_zeros(out, 88, 40);
     }
 }

@@ -1,6 +1,6 @@
 // A record that stands as a part of another, from a place on.
-ghost use Rattle.std.specs.Prelude.{◌≡◌, ◌+◌, ◌^◌, ◌<◌};
-ghost use Rattle.octets.specs.Octets.{put, le_bytes};
+ghost use Rattle.std.specs.Prelude.{◌≡◌};
+ghost use Rattle.octets.specs.Octets.{put};
 ghost use Rattle.codec.specs.Layout.{fields_at};
 ghost use Rattle.codec.specs.Codec.{bytes};
 ghost use Rattle.codec.specs.Answers.{Builds};
@@ -21,16 +21,4 @@ pub(crate) fn write_at<R: Record>(part: R, out: &mut [u8], at: usize)
     if at <= out.len() {
         part.write(&mut out[at..]);
     }
-}
-
-// Forty zeros, put from a place on. Octets that would lie past the end are dropped.
-pub(crate) fn put_zeros(out: &mut [u8], at: usize)
-    requires { at + 40 < 2 ^ 64 }
-    ensures { out.new ≡ put out.old at (le_bytes 40 0) }
-{
-    octets::put_u64_le(out, at, 0);
-    octets::put_u64_le(out, at + 8, 0);
-    octets::put_u64_le(out, at + 16, 0);
-    octets::put_u64_le(out, at + 24, 0);
-    octets::put_u64_le(out, at + 32, 0);
 }

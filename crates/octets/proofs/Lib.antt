@@ -1,5 +1,6 @@
 -- The laws of `octets`, which every crate above cites. Assumes nothing.
 pub mod OctetsLaws
+pub mod PartsLaws
 pub mod SameLaws
 pub mod Tools
 pub mod Choices

@@ -36,8 +36,8 @@ reading-injective x y e =
 pub number-determined : Determined the.PacketEndpointDisposition.number.Kinds.ps the.PacketEndpointDisposition.number.Kinds.r the.PacketEndpointDisposition.number.Reads.Learnt
 number-determined κs a x y u v = as-told
 
-pub of-number-determined : Determined the.PacketEndpointDisposition.of_number.Kinds.ps the.PacketEndpointDisposition.of_number.Kinds.r the.PacketEndpointDisposition.of_number.Reads.Learnt
-of-number-determined κs a x y u v = as-numbered disposition_of disposition-injective x y
+pub from-number-determined : Determined the.PacketEndpointDispositionFromU8.from.Kinds.ps the.PacketEndpointDispositionFromU8.from.Kinds.r the.PacketEndpointDispositionFromU8.from.Reads.Learnt
+from-number-determined κs a x y u v = as-numbered disposition_of disposition-injective x y
 
 pub classify-l3-udp-source-determined : Determined the.classify_l3_udp_source.Kinds.ps the.classify_l3_udp_source.Kinds.r the.classify_l3_udp_source.Reads.Learnt
 classify-l3-udp-source-determined κs a x y u v = as-numbered answer_of reading-injective x y

@@ -4,18 +4,19 @@
 // comes to it, after the test of the packet's length: the readers' own tests then cost nothing.
 #![tactic(auto)]
 
-ghost use Rattle.std.specs.Prelude.{◌+◌, ◌*◌, ◌≤◌, ◌≡◌, cond, ◌||◌, eqb, ltb};
+ghost use Rattle.std.specs.Prelude.{◌+◌, ◌*◌, ◌<◌, ◌≤◌, ◌≡◌, cond, ◌||◌, eqb, ltb};
 ghost use Rattle.octets.specs.Octets.{octets_at, same_octets};
 ghost use Rattle.packet.specs.Rfc791.{source as source4};
 ghost use Rattle.packet.specs.Rfc8200.{source as source6, length_byte};
 ghost use Rattle.packet.specs.Answers.{disposition_of, disposition_number, disposition_numbered, answer_of};
-ghost use Rattle.packet.specs.Inner.Steps.{class_number, outcome_of, Walked};
+ghost use Rattle.packet.specs.Inner.Steps.{class_number, outcome_of, Checked, Walked};
 ghost use Rattle.packet.specs.Reading.{unrelated, indeterminate, stop, sort_of, udp_of, pass_of, counted_of, fragment_of, step_of, walk_of, ipv4_of, ipv6_of, known, classify_of};
 
 use endpoint::ProtectedEndpoint;
+use std::ops::ControlFlow;
 
 // What a packet proves of its source.
-#[derive(Clone, Copy)]
+#[derive(Clone, Copy, Debug, PartialEq, Eq, Hash)]
 pub enum PacketEndpointDisposition {
     // The packet is proven to use the protected UDP source.
     Protected,
@@ -36,11 +37,13 @@ impl PacketEndpointDisposition {
             PacketEndpointDisposition::Indeterminate => 2,
         }
     }
+}
 
-    // The disposition that has a number; a number that none has is taken for Indeterminate's.
-    pub fn of_number(number: u8) -> PacketEndpointDisposition
-        ensures { disposition_of result ≡ disposition_numbered number }
-    {
+// The disposition that has a number; a number that none has is taken for Indeterminate's.
+impl From<u8> for PacketEndpointDisposition {
+    ghost from_gives = { λ n d. disposition_of d ≡ disposition_numbered n };
+
+    fn from(number: u8) -> Self {
         match number {
             0 => PacketEndpointDisposition::Protected,
             1 => PacketEndpointDisposition::Unrelated,
@@ -50,14 +53,14 @@ impl PacketEndpointDisposition {
 }
 
 // What reading a packet gives: the disposition, and the number of IPv6 extension headers passed on the way.
-#[derive(Clone, Copy)]
+#[derive(Clone, Copy, Debug, PartialEq, Eq, Hash)]
 pub struct PacketReading {
     pub disposition: PacketEndpointDisposition,
     pub headers: u8,
 }
 
 // What a next-header value calls for: the port test, Unrelated, one of three length rules, or Indeterminate.
-#[derive(Clone, Copy)]
+#[derive(Clone, Copy, Debug, PartialEq, Eq, Hash)]
 enum HeaderClass {
     Udp,
     NotUdp,
@@ -65,13 +68,6 @@ enum HeaderClass {
     Authentication,
     Fragment,
     Other,
-}
-
-// What the header at a place comes to: reading stops there, or goes on to the next header's value and place.
-#[derive(Clone, Copy)]
-enum Step {
-    Stop(PacketEndpointDisposition),
-    Pass { next: u8, at: usize },
 }
 
 const IPV4_MIN_HEADER_LEN: usize = 20;
@@ -100,32 +96,10 @@ fn stopped(disposition: PacketEndpointDisposition) -> PacketReading
     }
 }
 
-// ---- room, and the UDP header
-
-// Whether `len` bytes from `at` on pass `end`.
-fn past(at: usize, len: usize, end: usize) -> bool
-    ensures { result ≡ ltb end (at + len) }
-{
-    if at <= end { end - at < len } else { true }
-}
-
-// The UDP header at `at`, in a packet that ends at `end`: the source port decides.
-fn udp(packet: &[u8], port: u16, end: usize, at: usize) -> PacketEndpointDisposition
-    ensures { disposition_of result ≡ udp_of packet.now port end at }
-{
-    if past(at, UDP_HEADER_LEN, end) {
-        return PacketEndpointDisposition::Indeterminate;
-    }
-    if octets::get_u16_be(packet, at) == port {
-        PacketEndpointDisposition::Protected
-    } else {
-        PacketEndpointDisposition::Unrelated
-    }
-}
-
-// ---- the IPv6 chain
+// ---- the sorting of headers
 
 // The sorting of the next-header value.
+#[tactic(auto, unfolding(crate::specs::Reading::sort_of))]
 fn sort(next: u8) -> HeaderClass
     ensures { class_number result ≡ sort_of next }
 {
@@ -143,102 +117,132 @@ fn sort(next: u8) -> HeaderClass
     }
 }
 
-// Whether an extension header cannot be entered: there is no allowance, or its first `len` bytes pass `end`.
-fn barred(allowance: u8, at: usize, len: usize, end: usize) -> bool
-    ensures { result ≡ (eqb allowance 0 || ltb end (at + len)) }
-{
-    if allowance == 0 {
-        true
-    } else {
-        past(at, len, end)
-    }
-}
+// ---- the readers of headers
 
-// On past the header of `len` bytes at `at`, unless it passes `end`.
-fn pass(packet: &[u8], end: usize, at: usize, len: usize) -> Step
-    ensures { outcome_of at result ≡ pass_of packet.now end at len }
-{
-    if past(at, len, end) {
-        return Step::Stop(PacketEndpointDisposition::Indeterminate);
-    }
-    Step::Pass {
-        next: octets::get_u8(packet, at),
-        at: at + len,
-    }
-}
-
-// A header whose second byte gives its length in units of `unit` bytes, of which `uncounted` are not counted.
-fn counted(
-    packet: &[u8],
-    end: usize,
-    allowance: u8,
-    at: usize,
-    unit: usize,
-    uncounted: usize,
-) -> Step
-    requires { (unit ≤ 8) × (uncounted ≤ 2) }
-    ensures { outcome_of at result ≡ counted_of packet.now end allowance at (unit * (length_byte packet.now at + uncounted)) }
-{
-    if barred(allowance, at, 2, end) {
-        return Step::Stop(PacketEndpointDisposition::Indeterminate);
-    }
-    let n = octets::get_u8(packet, at + 1) as usize;
-    pass(packet, end, at, unit * (n + uncounted))
-}
-
-// A Fragment header. Its offset, its reserved bits and M leave the UDP source in doubt unless all are zero.
-#[tactic(auto, unfolding(crate::specs::Reading::fragment_of))]
-fn fragment(packet: &[u8], end: usize, allowance: u8, at: usize) -> Step
-    ensures { outcome_of at result ≡ fragment_of packet.now end allowance at }
-{
-    if barred(allowance, at, IPV6_FRAGMENT_HEADER_LEN, end) {
-        return Step::Stop(PacketEndpointDisposition::Indeterminate);
-    }
-    if octets::get_u16_be(packet, at + 2) != 0 {
-        return Step::Stop(PacketEndpointDisposition::Indeterminate);
-    }
-    pass(packet, end, at, IPV6_FRAGMENT_HEADER_LEN)
-}
-
-// One header of the chain: the one of value `next` at `at`.
-fn take_step(packet: &[u8], port: u16, end: usize, allowance: u8, next: u8, at: usize) -> Step
-    ensures { outcome_of at result ≡ step_of packet.now port end allowance next at }
-{
-    let class = sort(next);
-    match class {
-        HeaderClass::Udp => Step::Stop(udp(packet, port, end, at)),
-        HeaderClass::NotUdp => Step::Stop(PacketEndpointDisposition::Unrelated),
-        HeaderClass::Options => counted(packet, end, allowance, at, 8, 1),
-        HeaderClass::Authentication => counted(packet, end, allowance, at, 4, 2),
-        HeaderClass::Fragment => fragment(packet, end, allowance, at),
-        HeaderClass::Other => Step::Stop(PacketEndpointDisposition::Indeterminate),
-    }
-}
-
-// The chain from `at` on: after a header, the rest of it is read with an allowance one smaller. Each header passed is added to
-// `headers`.
-//
-// The answer is the disposition's number, and the packet's slice stands behind a reference: a call then hands on nothing but
-// numbers and plain references, and the compiler makes a loop of it.
-fn walk(
-    packet: &&[u8],
-    port: u16,
-    end: usize,
-    allowance: u8,
+// A place in the chain of headers: the value that names the header there, and where it begins.
+#[derive(Clone, Copy)]
+struct Cursor {
     next: u8,
     at: usize,
-    headers: &mut u8,
-) -> u8
-    requires { headers.old + allowance ≤ 4 }
-    ensures { Walked (walk_of packet.now.now port end allowance next at) headers.old result headers.new }
-{
-    let whole = *packet;
-    let found = take_step(whole, port, end, allowance, next, at);
-    match found {
-        Step::Stop(disposition) => disposition.number(),
-        Step::Pass { next, at } => {
-            *headers = *headers + 1;
-            walk(packet, port, end, allowance - 1, next, at, headers)
+}
+
+// Reads the headers of a packet that ends at `end`, and looks for the port. Reading breaks off with what the packet proves, or goes on.
+#[derive(Clone, Copy)]
+struct Reader<'a> {
+    packet: &'a [u8],
+    end: usize,
+    port: u16,
+}
+
+impl Reader<'_> {
+    // Goes on where `len` bytes from `at` on do not pass the end.
+    fn room(&self, at: usize, len: usize) -> ControlFlow<PacketEndpointDisposition>
+        ensures { Checked (ltb self.now.end (at + len)) result }
+    {
+        if at <= self.end && len <= self.end - at {
+            ControlFlow::Continue(())
+        } else {
+            ControlFlow::Break(PacketEndpointDisposition::Indeterminate)
+        }
+    }
+
+    // The UDP header at `at`: the source port decides.
+    #[tactic(auto, unfolding(crate::specs::Reading::udp_of))]
+    fn udp(&self, at: usize) -> PacketEndpointDisposition
+        ensures { disposition_of result ≡ udp_of self.now.packet.now self.now.port self.now.end at }
+    {
+        match self.room(at, UDP_HEADER_LEN) {
+            ControlFlow::Break(disposition) => disposition,
+            ControlFlow::Continue(()) if octets::get_be::<u16>(self.packet, at) == self.port => {
+                PacketEndpointDisposition::Protected
+            }
+            ControlFlow::Continue(()) => PacketEndpointDisposition::Unrelated,
+        }
+    }
+
+    // Enters an extension header: there is an allowance, and its first `len` bytes do not pass the end.
+    fn enter(&self, at: usize, allowance: u8, len: usize) -> ControlFlow<PacketEndpointDisposition>
+        ensures { Checked (eqb allowance 0 || ltb self.now.end (at + len)) result }
+    {
+        if allowance == 0 {
+            return ControlFlow::Break(PacketEndpointDisposition::Indeterminate);
+        }
+        self.room(at, len)
+    }
+
+    // On past the header of `len` bytes at `at`, unless it passes the end.
+    #[tactic(auto, unfolding(crate::specs::Reading::pass_of))]
+    fn pass(&self, at: usize, len: usize) -> ControlFlow<PacketEndpointDisposition, Cursor>
+        ensures { outcome_of at result ≡ pass_of self.now.packet.now self.now.end at len }
+    {
+        self.room(at, len)?;
+        ControlFlow::Continue(Cursor {
+            next: octets::get_u8(self.packet, at),
+            at: at + len,
+        })
+    }
+
+    // A header whose second byte gives its length in units of `unit` bytes, of which `uncounted` are not counted.
+    #[tactic(auto, unfolding(crate::specs::Reading::counted_of))]
+    fn counted(
+        &self,
+        at: usize,
+        allowance: u8,
+        unit: usize,
+        uncounted: usize,
+    ) -> ControlFlow<PacketEndpointDisposition, Cursor>
+        requires { (unit ≤ 8) × (uncounted ≤ 2) }
+        ensures { outcome_of at result ≡ counted_of self.now.packet.now self.now.end allowance at (unit * (length_byte self.now.packet.now at + uncounted)) }
+    {
+        self.enter(at, allowance, 2)?;
+        let n = octets::get_u8(self.packet, at + 1) as usize;
+        self.pass(at, unit * (n + uncounted))
+    }
+
+    // A Fragment header. Its offset, its reserved bits and M leave the UDP source in doubt unless all are zero.
+    #[tactic(auto, unfolding(crate::specs::Reading::fragment_of))]
+    fn fragment(&self, at: usize, allowance: u8) -> ControlFlow<PacketEndpointDisposition, Cursor>
+        ensures { outcome_of at result ≡ fragment_of self.now.packet.now self.now.end allowance at }
+    {
+        self.enter(at, allowance, IPV6_FRAGMENT_HEADER_LEN)?;
+        if octets::get_be::<u16>(self.packet, at + 2) != 0 {
+            return ControlFlow::Break(PacketEndpointDisposition::Indeterminate);
+        }
+        self.pass(at, IPV6_FRAGMENT_HEADER_LEN)
+    }
+
+    // One header of the chain: the one at the cursor.
+    #[tactic(auto, unfolding(crate::specs::Reading::step_of))]
+    fn step(&self, cursor: Cursor, allowance: u8) -> ControlFlow<PacketEndpointDisposition, Cursor>
+        ensures { outcome_of cursor.at result ≡ step_of self.now.packet.now self.now.port self.now.end allowance cursor.next cursor.at }
+    {
+        let at = cursor.at;
+        match sort(cursor.next) {
+            HeaderClass::Udp => ControlFlow::Break(self.udp(at)),
+            HeaderClass::NotUdp => ControlFlow::Break(PacketEndpointDisposition::Unrelated),
+            HeaderClass::Options => self.counted(at, allowance, 8, 1),
+            HeaderClass::Authentication => self.counted(at, allowance, 4, 2),
+            HeaderClass::Fragment => self.fragment(at, allowance),
+            HeaderClass::Other => ControlFlow::Break(PacketEndpointDisposition::Indeterminate),
+        }
+    }
+
+    // The chain from the cursor on: after a header, the rest of it is read with an allowance one smaller. Each header passed is added to
+    // `headers`.
+    //
+    // The compiler makes a loop of it, so long as a call hands on numbers, references and structs of two numbers at most, and answers one
+    // value: with the allowance in the cursor, or the count in the answer, it took 124 to 444 instructions where it takes 95 to 173.
+    #[tactic(auto, using(crate::proofs::Laws::walk_over, crate::proofs::Laws::allowed, crate::proofs::Laws::walk_on))]
+    fn walk(&self, cursor: Cursor, allowance: u8, headers: &mut u8) -> PacketEndpointDisposition
+        requires { headers.old + allowance ≤ 4 }
+        ensures { Walked (walk_of self.now.packet.now self.now.port self.now.end allowance cursor.next cursor.at) headers.old result headers.new }
+    {
+        match self.step(cursor, allowance) {
+            ControlFlow::Break(disposition) => disposition,
+            ControlFlow::Continue(after) => {
+                *headers += 1;
+                self.walk(after, allowance - 1, headers)
+            }
         }
     }
 }
@@ -246,65 +250,60 @@ fn walk(
 // ---- the two families
 
 // Whether an IPv4 packet's source, which begins at 12, is the address. It is compared where it stands, as one number.
+#[tactic(auto, using(octets::proofs::SameLaws::same_numbers))]
 fn same_ipv4(packet: &[u8], address: &[u8]) -> bool
     ensures { result ≡ same_octets (source4 packet.now) (octets_at address.now 0 4) }
 {
-    octets::get_u32_le(packet, 12) == octets::get_u32_le(address, 0)
+    octets::get_le::<u32>(packet, 12) == octets::get_le::<u32>(address, 0)
 }
 
 // The same of an IPv6 packet's source, which begins at 8, as two numbers. It is called from one place only: the compiler puts it
 // there, behind the test of the packet's length, and the readers' own tests fold away.
+#[tactic(auto, using(crate::proofs::Laws::same_sixteen))]
 fn same_ipv6(packet: &[u8], address: &[u8]) -> bool
     ensures { result ≡ same_octets (source6 packet.now) (octets_at address.now 0 16) }
 {
-    let first = octets::get_u64_le(packet, 8);
-    let second = octets::get_u64_le(packet, 16);
-    let wanted_first = octets::get_u64_le(address, 0);
-    let wanted_second = octets::get_u64_le(address, 8);
-    if first == wanted_first {
-        second == wanted_second
-    } else {
-        false
-    }
+    octets::get_le::<u64>(packet, 8) == octets::get_le::<u64>(address, 0)
+        && octets::get_le::<u64>(packet, 16) == octets::get_le::<u64>(address, 8)
 }
 
 #[tactic(auto, unfolding(crate::specs::Reading::ipv4_head))]
-fn ipv4(packet: &[u8], endpoint: ProtectedEndpoint) -> PacketReading
-    ensures { answer_of result ≡ ipv4_of packet.now endpoint }
+fn ipv4(packet: &[u8], endpoint: ProtectedEndpoint) -> PacketEndpointDisposition
+    ensures { stop 0 (disposition_of result) ≡ ipv4_of packet.now endpoint }
 {
-    let port = endpoint.port;
     let len = packet.len();
     if len < IPV4_MIN_HEADER_LEN {
-        return stopped(PacketEndpointDisposition::Indeterminate);
+        return PacketEndpointDisposition::Indeterminate;
     }
     let size = 4 * ((octets::get_u8(packet, 0) % 16) as usize);
     if size < IPV4_MIN_HEADER_LEN {
-        return stopped(PacketEndpointDisposition::Indeterminate);
+        return PacketEndpointDisposition::Indeterminate;
     }
     if !same_ipv4(packet, &endpoint.address) {
-        return stopped(PacketEndpointDisposition::Unrelated);
+        return PacketEndpointDisposition::Unrelated;
     }
-    let total = octets::get_u16_be(packet, 2) as usize;
-    if total < size {
-        return stopped(PacketEndpointDisposition::Indeterminate);
-    }
-    if len < total {
-        return stopped(PacketEndpointDisposition::Indeterminate);
+    let total = octets::get_be::<u16>(packet, 2) as usize;
+    if total < size || len < total {
+        return PacketEndpointDisposition::Indeterminate;
     }
     if octets::get_u8(packet, 9) != IPV4_PROTOCOL_UDP {
-        return stopped(PacketEndpointDisposition::Unrelated);
+        return PacketEndpointDisposition::Unrelated;
     }
-    if octets::get_u16_be(packet, 6) & IPV4_AMBIGUOUS_FRAGMENT_MASK != 0 {
-        return stopped(PacketEndpointDisposition::Indeterminate);
+    if octets::get_be::<u16>(packet, 6) & IPV4_AMBIGUOUS_FRAGMENT_MASK != 0 {
+        return PacketEndpointDisposition::Indeterminate;
     }
-    stopped(udp(packet, port, total, size))
+    let reader = Reader {
+        packet,
+        end: total,
+        port: endpoint.port,
+    };
+    reader.udp(size)
 }
 
 #[tactic(auto, unfolding(crate::specs::Reading::ipv6_head))]
 fn ipv6(packet: &[u8], endpoint: ProtectedEndpoint) -> PacketReading
     ensures { answer_of result ≡ ipv6_of packet.now endpoint }
 {
-    let port = endpoint.port;
     let len = packet.len();
     if len < IPV6_HEADER_LEN {
         return stopped(PacketEndpointDisposition::Indeterminate);
@@ -312,7 +311,7 @@ fn ipv6(packet: &[u8], endpoint: ProtectedEndpoint) -> PacketReading
     if !same_ipv6(packet, &endpoint.address) {
         return stopped(PacketEndpointDisposition::Unrelated);
     }
-    let payload = octets::get_u16_be(packet, 4) as usize;
+    let payload = octets::get_be::<u16>(packet, 4) as usize;
     if payload == 0 {
         return stopped(PacketEndpointDisposition::Indeterminate);
     }
@@ -320,18 +319,17 @@ fn ipv6(packet: &[u8], endpoint: ProtectedEndpoint) -> PacketReading
     if len < end {
         return stopped(PacketEndpointDisposition::Indeterminate);
     }
-    let next = octets::get_u8(packet, 6);
-    let mut headers = 0u8;
-    let answer = walk(
-        &packet,
-        port,
+    let reader = Reader {
+        packet,
         end,
-        MAX_IPV6_EXTENSION_HEADERS,
-        next,
-        IPV6_HEADER_LEN,
-        &mut headers,
-    );
-    let disposition = PacketEndpointDisposition::of_number(answer);
+        port: endpoint.port,
+    };
+    let cursor = Cursor {
+        next: octets::get_u8(packet, 6),
+        at: IPV6_HEADER_LEN,
+    };
+    let mut headers = 0;
+    let disposition = reader.walk(cursor, MAX_IPV6_EXTENSION_HEADERS, &mut headers);
     PacketReading {
         disposition,
         headers,
@@ -340,15 +338,12 @@ fn ipv6(packet: &[u8], endpoint: ProtectedEndpoint) -> PacketReading
 
 // The endpoint is of another family than the packet: the packet is not its own, if it is of any family at all.
 #[tactic(auto, unfolding(crate::specs::Reading::known))]
-fn foreign(family: u8) -> PacketReading
-    ensures { answer_of result ≡ cond (known family) (stop 0 unrelated) (stop 0 indeterminate) }
+fn foreign(family: u8) -> PacketEndpointDisposition
+    ensures { disposition_of result ≡ cond (known family) unrelated indeterminate }
 {
-    if family == ProtectedEndpoint::IPV4 {
-        stopped(PacketEndpointDisposition::Unrelated)
-    } else if family == ProtectedEndpoint::IPV6 {
-        stopped(PacketEndpointDisposition::Unrelated)
-    } else {
-        stopped(PacketEndpointDisposition::Indeterminate)
+    match family {
+        ProtectedEndpoint::IPV4 | ProtectedEndpoint::IPV6 => PacketEndpointDisposition::Unrelated,
+        _ => PacketEndpointDisposition::Indeterminate,
     }
 }
 
@@ -358,25 +353,13 @@ fn foreign(family: u8) -> PacketReading
 pub fn classify_l3_udp_source(packet: &[u8], endpoint: ProtectedEndpoint) -> PacketReading
     ensures { answer_of result ≡ classify_of packet.now endpoint }
 {
-    let family = endpoint.family;
-    if packet.len() == 0 {
+    if packet.is_empty() {
         return stopped(PacketEndpointDisposition::Indeterminate);
     }
-    match octets::get_u8(packet, 0) / 16 {
-        4 => {
-            if family == ProtectedEndpoint::IPV4 {
-                ipv4(packet, endpoint)
-            } else {
-                foreign(family)
-            }
-        }
-        6 => {
-            if family == ProtectedEndpoint::IPV6 {
-                ipv6(packet, endpoint)
-            } else {
-                foreign(family)
-            }
-        }
+    match (octets::get_u8(packet, 0) / 16, endpoint.family) {
+        (4, ProtectedEndpoint::IPV4) => stopped(ipv4(packet, endpoint)),
+        (6, ProtectedEndpoint::IPV6) => ipv6(packet, endpoint),
+        (4 | 6, family) => stopped(foreign(family)),
         _ => stopped(PacketEndpointDisposition::Indeterminate),
     }
 }

@@ -201,3 +201,12 @@ value-decode-determined κs a x y u v = as-decoded x y
 
 pub value-encode-determined : Determined value-record.encode.Kinds.ps value-record.encode.Kinds.r value-record.encode.Reads.Learnt
 value-encode-determined κs a x y u v = as-encoded x y u v refl refl
+
+pub key-blank-determined : Determined key-record.blank.Kinds.ps key-record.blank.Kinds.r key-record.blank.Reads.Learnt
+key-blank-determined κs a x y u v = as-told
+
+pub entry-blank-determined : Determined entry-record.blank.Kinds.ps entry-record.blank.Kinds.r entry-record.blank.Reads.Learnt
+entry-blank-determined κs a x y u v = as-told
+
+pub value-blank-determined : Determined value-record.blank.Kinds.ps value-record.blank.Kinds.r value-record.blank.Reads.Learnt
+value-blank-determined κs a x y u v = as-told

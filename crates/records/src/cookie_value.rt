@@ -60,12 +60,12 @@ impl CookieValueFields {
     pub fn write(self, out: &mut [u8])
         ensures { out.new ≡ put out.old 0 (laid cookie_value_codec.layout (cookie_value_numbers self)) }
     {
-        octets::put_u32_le(out, 0, self.zeros);
-        octets::put_u32_le(out, 4, self.control);
-        octets::put_u64_le(out, 8, self.socket_cookie.0);
-        octets::put_u64_le(out, 16, self.durable_fence_token.0);
-        octets::put_u64_le(out, 24, self.deadline_boot_ns.0);
-        octets::put_u64_le(out, 32, self.control_epoch.0);
+        octets::put_le::<u32>(out, 0, self.zeros);
+        octets::put_le::<u32>(out, 4, self.control);
+        octets::put_le::<u64>(out, 8, self.socket_cookie.0);
+        octets::put_le::<u64>(out, 16, self.durable_fence_token.0);
+        octets::put_le::<u64>(out, 24, self.deadline_boot_ns.0);
+        octets::put_le::<u64>(out, 32, self.control_epoch.0);
     }
 }
 
@@ -142,18 +142,28 @@ impl Record for FenceCookieValue {
 
     ghost counted = { λ v. refl };
 
+    fn blank() -> FenceCookieValue {
+        FenceCookieValue {
+            state: FenceEntryState::InitialClosed,
+            socket_cookie: SocketCookie(0),
+            durable_fence_token: DurableFenceToken(0),
+            deadline_boot_ns: BootNs(0),
+            control_epoch: ControlEpoch(0),
+        }
+    }
+
     fn is_sound(self) -> bool {
         self.socket_cookie.0 != 0 && self.entry().is_sound()
     }
 
     fn read(s: &[u8]) -> Result<FenceCookieValue, Refusal> {
         CookieValueFields {
-            zeros: octets::get_u32_le(s, 0),
-            control: octets::get_u32_le(s, 4),
-            socket_cookie: SocketCookie(octets::get_u64_le(s, 8)),
-            durable_fence_token: DurableFenceToken(octets::get_u64_le(s, 16)),
-            deadline_boot_ns: BootNs(octets::get_u64_le(s, 24)),
-            control_epoch: ControlEpoch(octets::get_u64_le(s, 32)),
+            zeros: octets::get_le::<u32>(s, 0),
+            control: octets::get_le::<u32>(s, 4),
+            socket_cookie: SocketCookie(octets::get_le::<u64>(s, 8)),
+            durable_fence_token: DurableFenceToken(octets::get_le::<u64>(s, 16)),
+            deadline_boot_ns: BootNs(octets::get_le::<u64>(s, 24)),
+            control_epoch: ControlEpoch(octets::get_le::<u64>(s, 32)),
         }
         .to_record()
     }

@@ -167,11 +167,11 @@ impl EntryFields {
     pub fn write(self, out: &mut [u8])
         ensures { out.new ≡ put out.old 0 (laid entry_codec.layout (entry_numbers self)) }
     {
-        octets::put_u32_le(out, 0, self.zeros);
-        octets::put_u32_le(out, 4, self.control);
-        octets::put_u64_le(out, 8, self.durable_fence_token.0);
-        octets::put_u64_le(out, 16, self.deadline_boot_ns.0);
-        octets::put_u64_le(out, 24, self.control_epoch.0);
+        octets::put_le::<u32>(out, 0, self.zeros);
+        octets::put_le::<u32>(out, 4, self.control);
+        octets::put_le::<u64>(out, 8, self.durable_fence_token.0);
+        octets::put_le::<u64>(out, 16, self.deadline_boot_ns.0);
+        octets::put_le::<u64>(out, 24, self.control_epoch.0);
     }
 }
 
@@ -326,6 +326,15 @@ impl Record for FenceEntry {
 
     ghost counted = { λ v. refl };
 
+    fn blank() -> FenceEntry {
+        FenceEntry {
+            state: FenceEntryState::InitialClosed,
+            durable_fence_token: DurableFenceToken(0),
+            deadline_boot_ns: BootNs(0),
+            control_epoch: ControlEpoch(0),
+        }
+    }
+
     fn is_sound(self) -> bool {
         self.state.fits(
             self.durable_fence_token,
@@ -336,11 +345,11 @@ impl Record for FenceEntry {
 
     fn read(s: &[u8]) -> Result<FenceEntry, Refusal> {
         EntryFields {
-            zeros: octets::get_u32_le(s, 0),
-            control: octets::get_u32_le(s, 4),
-            durable_fence_token: DurableFenceToken(octets::get_u64_le(s, 8)),
-            deadline_boot_ns: BootNs(octets::get_u64_le(s, 16)),
-            control_epoch: ControlEpoch(octets::get_u64_le(s, 24)),
+            zeros: octets::get_le::<u32>(s, 0),
+            control: octets::get_le::<u32>(s, 4),
+            durable_fence_token: DurableFenceToken(octets::get_le::<u64>(s, 8)),
+            deadline_boot_ns: BootNs(octets::get_le::<u64>(s, 16)),
+            control_epoch: ControlEpoch(octets::get_le::<u64>(s, 24)),
         }
         .to_record()
     }

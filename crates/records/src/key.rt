@@ -58,18 +58,25 @@ impl Record for FenceCookieKey {
 
     ghost counted = { λ v. refl };
 
+    fn blank() -> FenceCookieKey {
+        FenceCookieKey {
+            socket_cookie: SocketCookie(0),
+            durable_fence_token: DurableFenceToken(0),
+        }
+    }
+
     fn is_sound(self) -> bool {
         (self.socket_cookie.0 != 0) & (self.durable_fence_token.0 != 0)
     }
 
     fn read(s: &[u8]) -> Result<FenceCookieKey, Refusal> {
-        let socket_cookie = SocketCookie(octets::get_u64_le(s, 0));
-        let durable_fence_token = DurableFenceToken(octets::get_u64_le(s, 8));
+        let socket_cookie = SocketCookie(octets::get_le::<u64>(s, 0));
+        let durable_fence_token = DurableFenceToken(octets::get_le::<u64>(s, 8));
         FenceCookieKey::new(socket_cookie, durable_fence_token)
     }
 
     fn write(self, out: &mut [u8]) {
-        octets::put_u64_le(out, 0, self.socket_cookie.0);
-        octets::put_u64_le(out, 8, self.durable_fence_token.0);
+        octets::put_le::<u64>(out, 0, self.socket_cookie.0);
+        octets::put_le::<u64>(out, 8, self.durable_fence_token.0);
     }
 }

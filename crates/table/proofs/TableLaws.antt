@@ -1,6 +1,6 @@
 -- The laws of `specs/Table.antt`: a table of forty bytes or more is a record and the rest, so a search at a place finds its record
 -- there, further on, or nowhere; and a record that is found has forty bytes, so that no bytes mean none. Assumes nothing.
-use Rattle.octets.specs.Words.{ℕ, zero, suc, ◌+◌, ◌*◌, ◌/◌, ◌<◌, ◌≤◌, ◌≡◌, Bool, true, false, cond, List, [], ◌∷◌, length, take, drop, eqb}
+use Rattle.octets.specs.Words.{ℕ, zero, suc, ◌+◌, ◌-◌, ◌*◌, ◌/◌, ◌<◌, ◌≤◌, ◌≡◌, Bool, true, false, cond, List, [], ◌∷◌, length, take, drop, eqb}
 use Rattle.octets.proofs.Tools.{refl, sym, ap, ◌∙◌, arith, ne_eqb}
 use native.Mathlib.Nat.{add_comm}
 use lib.ListN.{length-take, length-drop}
@@ -25,20 +25,23 @@ records-more s h =
 abbrev pub searched : ℕ → ℕ → ℕ → List (List ℕ) → List ℕ × ℕ
 searched at k t rs = (first_of (under k t rs), place_from at k t rs)
 
--- at a place of the table: here, further on, or nowhere
-module _ (k t : ℕ) (s : List ℕ) (at : ℕ) where
-  pub found_here : at + 40 ≤ length s → is_under k t (take 40 (drop at s)) ≡ true → searched at k t (records (drop at s)) ≡ (take 40 (drop at s), at)
-  unfolding under first_of place_from
-  found_here h e = rw (records-more (drop at s) (rw length-drop (omega arith)), e)
+-- at a place of the table with a record after it, of which b tells whether it stands under the key: here, or further on
+module _ (k t : ℕ) (s : List ℕ) (at to : ℕ) (b : Bool) (room : to ≡ at + 40) (inside : to ≤ length s) (told : b ≡ is_under k t (take (to - at) (drop at s))) where
+  abbrev wide : to - at ≡ 40
+  wide = omega arith
 
-  pub found-on : at + 40 ≤ length s → is_under k t (take 40 (drop at s)) ≡ false →
-      searched at k t (records (drop at s)) ≡ searched (at + 40) k t (records (drop (at + 40) s))
+  pub found_here : b ≡ true → searched at k t (records (drop at s)) ≡ (take (to - at) (drop at s), at)
+  unfolding under first_of place_from
+  found_here e = rw (wide, records-more (drop at s) (rw length-drop (omega arith)), rw wide at (sym told ∙ e))
+
+  pub found-on : b ≡ false → searched at k t (records (drop at s)) ≡ searched to k t (records (drop to s))
   unfolding under place_from
-  found-on h e = rw (records-more (drop at s) (rw length-drop (omega arith)), e, drop-drop)
+  found-on e = rw (records-more (drop at s) (rw length-drop (omega arith)), rw wide at (sym told ∙ e), drop-drop, room)
 
-  pub found_none : length s < at + 40 → searched at k t (records (drop at s)) ≡ ([], 0)
-  unfolding under first_of place_from
-  found_none h = rw (records-none (drop at s) (rw length-drop (omega arith)))
+-- where less than a record is left: nowhere
+pub found_none : (k t : ℕ) (s : List ℕ) (at : ℕ) → length s < at + 40 → searched at k t (records (drop at s)) ≡ ([], 0)
+unfolding under first_of place_from
+found_none k t s at h = rw (records-none (drop at s) (rw length-drop (omega arith)))
 
 -- a part of a table that has the bytes that are found from a place on, and lies where they do, is the one promised
 module _ {at k t : ℕ} {table part : Bor (List ℕ)} where

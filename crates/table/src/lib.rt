@@ -5,8 +5,9 @@ ghost use Rattle.std.specs.Prelude.{◌+◌, ◌≤◌, ◌<◌, ◌≡◌, leng
 ghost use Rattle.table.specs.Table.{admissible, is_under, FirstUnder};
 ghost use Rattle.table.specs.Inner.Search.{FirstFrom};
 
+use codec::Record;
 use records::cookie_value::FenceCookieValue;
-use units::{DurableFenceToken, SocketCookie};
+use records::key::FenceCookieKey;
 
 // The longest table: 4,096 cookie values.
 pub const MAX_TABLE_LEN: usize = 163_840;
@@ -15,61 +16,51 @@ pub const MAX_TABLE_LEN: usize = 163_840;
 pub fn is_admissible(table: &[u8]) -> bool
     ensures { result ≡ admissible table.now }
 {
-    if table.len() % FenceCookieValue::LEN != 0 {
-        return false;
-    }
-    table.len() <= MAX_TABLE_LEN
+    table.len() % FenceCookieValue::LEN == 0 && table.len() <= MAX_TABLE_LEN
 }
 
 // Two cookie values side by side.
 const PAIR: usize = 2 * FenceCookieValue::LEN;
 
 // Whether a cookie value stands under a key: its cookie is at 8, its token at 16.
-fn is_under(bytes: &[u8], cookie: SocketCookie, token: DurableFenceToken) -> bool
-    ensures { result ≡ is_under cookie.0 token.0 bytes.now }
+fn is_under(bytes: &[u8], key: FenceCookieKey) -> bool
+    ensures { result ≡ is_under key.socket_cookie.0 key.durable_fence_token.0 bytes.now }
 {
-    if octets::get_u64_le(bytes, 8) == cookie.0 {
-        return octets::get_u64_le(bytes, 16) == token.0;
-    }
-    false
+    octets::get_le::<u64>(bytes, 8) == key.socket_cookie.0
+        && octets::get_le::<u64>(bytes, 16) == key.durable_fence_token.0
 }
 
 // From a place after which there is no second whole record: the record there, where it stands under the key; else an empty part.
-fn find_last(table: &[u8], at: usize, cookie: SocketCookie, token: DurableFenceToken) -> &[u8]
+fn find_last(table: &[u8], at: usize, key: FenceCookieKey) -> &[u8]
     requires { (at ≤ length table.now) × (length table.now < at + 80) }
-    ensures { FirstFrom at cookie.0 token.0 table.entry result }
+    ensures { FirstFrom at key.socket_cookie.0 key.durable_fence_token.0 table.entry result }
 {
     if table.len() - at < FenceCookieValue::LEN {
         return &table[..0];
     }
     let one = &table[at..at + FenceCookieValue::LEN];
-    if is_under(one, cookie, token) {
+    if is_under(one, key) {
         return one;
     }
     &table[..0]
 }
 
-// The first whole record of the table with this cookie and token, as that part of the table; an empty part where there is none. The
-// records are passed two at a time.
-pub fn find_record(table: &[u8], cookie: SocketCookie, token: DurableFenceToken) -> &[u8]
-    ensures { FirstUnder cookie.0 token.0 table.entry result }
+// The first whole record of the table under a key, as that part of the table; an empty part where there is none. The records are passed
+// two at a time.
+pub fn find_record(table: &[u8], key: FenceCookieKey) -> &[u8]
+    ensures { FirstUnder key.socket_cookie.0 key.durable_fence_token.0 table.entry result }
 {
-    if table.len() < PAIR {
-        return find_last(table, 0, cookie, token);
-    }
-    let last = table.len() - PAIR;
-    let mut at = 0;
-    while at <= last {
-        let middle = at + FenceCookieValue::LEN;
-        let first = &table[at..middle];
-        if is_under(first, cookie, token) {
+    let pairs = table.len() / PAIR;
+    for i in 0..pairs {
+        let at = i * PAIR;
+        let first = &table[at..at + FenceCookieValue::LEN];
+        if is_under(first, key) {
             return first;
         }
-        let second = &table[middle..at + PAIR];
-        if is_under(second, cookie, token) {
+        let second = &table[at + FenceCookieValue::LEN..at + PAIR];
+        if is_under(second, key) {
             return second;
         }
-        at += PAIR;
     }
-    find_last(table, at, cookie, token)
+    find_last(table, pairs * PAIR, key)
 }

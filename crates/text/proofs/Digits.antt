@@ -12,10 +12,6 @@ use Rattle.text.specs.Promises.{spelled, ReadsBack, FewDigits}
 
 -- ---- the digits, the last first
 
--- the end of a buffer of twenty bytes
-pub from_on : (d : List ℕ) (i : ℕ) → length d ≡ 20 → take (20 - i) (drop i d) ≡ drop i d
-from_on d i e = take_all (20 - i) (drop i d) (rw length-drop (omega arith))
-
 pub one-digit : (n p : ℕ) → 0 < p → n < 10 → decimal_in p n ≡ (48 + n) ∷ []
 unfolding decimal_in
 one-digit n zero h l = elim h [ ]
@@ -58,17 +54,18 @@ module _ {n i m : ℕ} {d : List ℕ} (g : Digits n i m d) (h : 0 < i) where
       }
 
   -- the first digit
-  pub digit-last : m < 10 → (i - 1 ≤ 20) × (drop (i - 1) (set d (i - 1) (48 + m)) ≡ decimal n)
+  pub digit-last : m < 10 → take (20 - (i - 1)) (drop (i - 1) (set d (i - 1) (48 + m))) ≡ decimal n
   digit-last l =
       let e = one_less in
       let b : i - 1 < length d = omega (arith, g.room, g.inside) in
-      (omega (arith, g.inside), sym (g.whole ∙ rw (drop-set d (i - 1) (48 + m) b, one-digit m i h l, e)))
+      take_all (20 - (i - 1)) (drop (i - 1) (set d (i - 1) (48 + m))) (simp (length-drop, length-set) (omega (arith, g.room))) ∙
+      sym (g.whole ∙ rw (drop-set d (i - 1) (48 + m) b, one-digit m i h l, e))
 
 -- no room is left, and no digit
-pub digits-full : {n : ℕ} (i : ℕ) {m : ℕ} {d : List ℕ} → Digits n i m d → i ≤ 0 → (i ≤ 20) × (drop i d ≡ decimal n)
+pub digits-full : {n i m : ℕ} {d : List ℕ} → Digits n i m d → i ≡ 0 → d ≡ decimal n
 unfolding decimal_in
-digits-full zero g h = (omega arith, sym g.whole)
-digits-full (suc _) g h = elim h [ ]
+digits-full {i = zero} g h = sym g.whole
+digits-full {i = suc _} g h = absurd (omega arith)
 
 -- ---- how many they are
 

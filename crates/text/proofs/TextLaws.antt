@@ -1,12 +1,14 @@
 -- The laws of places. The place after two texts is the one after the second, from the one after the first on: as long as there is such a
 -- place both are sums, and after the last place nothing lies in a buffer. So texts written one after the other are the text joined.
 -- Assumes nothing.
-use Rattle.octets.specs.Words.{ℕ, suc, ◌+◌, ◌-◌, ◌<◌, ◌≤◌, ◌≡◌, Bool, true, false, List, [], ◌∷◌, ◌++◌, length, get_or, take, drop, set, ltb}
-use Rattle.octets.proofs.Tools.{refl, sym, ap, ◌∙◌, arith, le-ltb, ltb-true, ltb-false}
+use Rattle.octets.specs.Words.{ℕ, ◌+◌, ◌-◌, ◌<◌, ◌≤◌, ◌≡◌, Bool, true, false, List, [], ◌∷◌, ◌++◌, length, take, drop, set, ltb, leb}
+use Prim.Native.Nat.{min}
+use Rattle.octets.proofs.Tools.{refl, sym, ap, ◌∙◌, arith, ltb-true, ltb-false, leb-true, leb-false, le-ltb}
 use Rattle.octets.proofs.Choices.{pick}
 use mathlib.Core.List.{append_assoc}
-use lib.ListN.{length-append}
-use lib.Seq.{take-suc, take-suc-set, take_all, drop-drop}
+use lib.ListN.{length-append, length-take, drop_of_length-le}
+use lib.Seq.{drop-drop}
+use Rattle.std.proofs.lemmas.List.{take-append-drop}
 use Rattle.octets.specs.Octets.{put}
 use Rattle.octets.proofs.OctetsLaws.{put-append, put-past, put_in, length-put}
 use Rattle.text.specs.Text.{last_place, after, Wrote}
@@ -21,6 +23,11 @@ after-in at n h = rw (le-ltb last_place (at + n) h)
 pub after-out : (at n : ℕ) → last_place ≤ at + n → after at n ≡ last_place
 unfolding after
 after-out at n h = pick (λ m. m ≡ last_place) (ltb last_place (at + n)) (λ e. refl) (λ e. omega (arith, ltb-false last_place (at + n) e))
+
+-- the sum that stops at the last place
+pub saturated : (at n : ℕ) → min (at + n) last_place ≡ after at n
+unfolding after
+saturated at n = pick (λ m. min (at + n) last_place ≡ m) (ltb last_place (at + n)) (λ e. omega (arith, ltb-true last_place (at + n) e)) (λ e. omega (arith, ltb-false last_place (at + n) e))
 
 after_same : (at n to m : ℕ) → at + n ≡ to + m → after at n ≡ after to m
 unfolding after
@@ -58,49 +65,45 @@ joins d d' d'' a b at m r fits w v = by (ltb last_place (at + length a)) refl
 pub then : {d d' d'' a b : List ℕ} {at m r : ℕ} → length d ≤ last_place → Wrote d at a d' m → Wrote d' m b d'' r → Wrote d at (a ++ b) d'' r
 then {d} {d'} {d''} {a} {b} {at} {m} {r} fits w v = joins d d' d'' a b at m r fits w v
 
--- ---- a byte, and a text that has room
+-- ---- a byte, a text that has room, and one of which a part has
+
+put_none : (d : List ℕ) (at : ℕ) → put d at [] ≡ d
+unfolding put
+put_none d at = refl
 
 pub byte : (d : List ℕ) (at v : ℕ) → at < last_place → Wrote d at (v ∷ []) (set d at v) (at + 1)
 unfolding put
 byte d at v h = record { bytes = refl; past = sym (after-in at 1 (omega arith)) }
 
-pub byte_past : (d : List ℕ) (at v : ℕ) {r : ℕ} → length d ≤ at → r ≡ after at 1 → Wrote d at (v ∷ []) d r
-byte_past d at v h e = record { bytes = sym (put-past d at (v ∷ []) h); past = e }
-
--- a place before the last is a sum
-pub after-sum : (at n : ℕ) {r m : ℕ} → r ≡ after at n → r < m → m ≤ last_place → r ≡ at + n
-after-sum at n {r} {m} e h l = by (ltb last_place (at + n)) refl
-  where
-    by : (t : Bool) → ltb last_place (at + n) ≡ t → r ≡ at + n
-    by true f = let last : after at n ≡ last_place = after-out at n (omega (arith, ltb-true last_place (at + n) f)) in absurd (omega arith)
-    by false f = e ∙ after-in at n (ltb-false last_place (at + n) f)
+pub byte_past : (d : List ℕ) (at v : ℕ) {r : ℕ} → length d ≤ at → r ≡ min (at + 1) last_place → Wrote d at (v ∷ []) d r
+byte_past d at v h e = record { bytes = sym (put-past d at (v ∷ []) h); past = e ∙ saturated at 1 }
 
 -- a part of the buffer that is filled with the text
-pub filled : {d text : List ℕ} (at : ℕ) {r : ℕ} {x : List ℕ} → length d ≤ last_place → r ≤ length d → r ≡ at + length text → x ≡ text →
+filling : (d text : List ℕ) {x : List ℕ} (at n : ℕ) → n ≡ length text → at + n ≤ length d → x ≡ text →
+    take at d ++ (x ++ drop (at + n - at) (drop at d)) ≡ put d at text
+filling d text at n e h f =
+    let wide : at + n - at ≡ length text = omega arith in
+    rw (f, wide, drop-drop (length text) at d, ← append_assoc (take at d) text (drop (at + length text) d)) (sym (put_in d at text (omega arith)))
+
+pub filled : {d text : List ℕ} (at : ℕ) {r : ℕ} {x : List ℕ} → r ≤ length d → r < last_place → r ≡ min (at + length text) last_place → x ≡ text →
     Wrote d at text (take at d ++ (x ++ drop (r - at) (drop at d))) r
-filled {d} {text} at {r} l h e f =
-    let wide : r - at ≡ length text = omega arith in
-    record {
-      bytes = rw (f, wide, drop-drop (length text) at d, ← append_assoc (take at d) text (drop (at + length text) d)) (sym (put_in d at text (omega arith)));
-      past = e ∙ sym (after-in at (length text) (omega arith));
-    }
+filled {d} {text} at {r} {x} h l e f =
+    let sum : r ≡ at + length text = omega arith in
+    record { bytes = rw sum (filling d text at (length text) refl (omega arith) f); past = e ∙ saturated at (length text) }
 
--- ---- copying, byte by byte
+-- what is left of a text after n bytes is nothing, or lies past the end
+past-room : (d text : List ℕ) (at n : ℕ) → n ≡ min (length text) (length d - at) → put d (at + n) (drop n text) ≡ d
+past-room d text at n e = by (leb (length text) n) refl
+  where
+    by : (b : Bool) → leb (length text) n ≡ b → put d (at + n) (drop n text) ≡ d
+    by true t = rw (drop_of_length-le text {i = n} (leb-true (length text) n t)) (put_none d (at + n))
+    by false t = put-past d (at + n) (drop n text) (omega (arith, leb-false (length text) n t))
 
-pub copied : (d text : List ℕ) (i : ℕ) → i < length text → i < length d → take i d ≡ take i text →
-    take (i + 1) (set d i (get_or text i 0)) ≡ take (i + 1) text
-copied d text i h l e =
-    let a : i + 1 ≡ suc i = omega arith in
-    rw (a, take-suc-set d i (get_or text i 0) l, take-suc text i 0 h, e)
-
-pub copied_all : (d text : List ℕ) (i : ℕ) → length text ≤ i → length d ≡ length text → take i d ≡ take i text → d ≡ text
-copied_all d text i h l e = sym (take_all i d (omega arith)) ∙ e ∙ take_all i text h
-
--- nothing yet, one byte more, and all
-pub none_yet : (d : List ℕ) (at : ℕ) → at ≤ last_place → Wrote d at [] d at
-unfolding put
-none_yet d at h = record { bytes = refl; past = sym (after-in at 0 (omega arith) ∙ omega arith) }
-
-pub one_more : {d d' d'' : List ℕ} {at m r : ℕ} (text : List ℕ) (i : ℕ) → length d ≤ last_place → i < length text → Wrote d at (take i text) d' m →
-    Wrote d' m (get_or text i 0 ∷ []) d'' r → Wrote d at (take (i + 1) text) d'' r
-one_more text i fits h w v = let a : i + 1 ≡ suc i = omega arith in rw (a, take-suc text i 0 h) (then fits w v)
+-- so the text is put when what has room is
+pub cut : (d text : List ℕ) {x : List ℕ} (at n : ℕ) → at < length d → n ≡ min (length text) (length d - at) → x ≡ take n text →
+    take at d ++ (x ++ drop (at + n - at) (drop at d)) ≡ put d at text
+cut d text at n h e f =
+    let long : length (take n text) ≡ n = rw length-take (omega arith) in
+    let kept : length (put d at (take n text)) ≡ length d = length-put d at (take n text) in
+    filling d (take n text) at n (sym long) (omega arith) f ∙
+    sym (ap (put d at) (sym (take-append-drop n text)) ∙ put-append d at (take n text) (drop n text) ∙ rw long (past-room (put d at (take n text)) text at n (rw kept e)))

@@ -1,12 +1,11 @@
 -- The slots: no two verdicts have one number, 255 for none among them, since `verdict_numbered` gives each back from its own; nor have two
 -- slots one list of numbers. Assumes nothing.
+use Rattle.std.specs.Prelude.{Option, Some, None}
 use Rattle.octets.specs.Words.{ℕ, ◌≤◌, ◌≡◌, cond, List, [], ◌∷◌, eqb}
 use Rattle.octets.proofs.Tools.{refl, sym, ap, ◌∙◌, arith}
-use Rattle.verdict.specs.Verdict.{slot_of, slot_numbers, slot_number}
+use Rattle.verdict.specs.Verdict.{slot_of, slot_number}
 use Rattle.verdict.specs.declared.FenceVerdict.{FenceVerdict}
 use Rattle.verdict.specs.declared.FenceVerdict.TheVariants.{PassUnrelated, Allow, DropCookieZero, DropMissing, DropClosed, DropExpired, DropStaleToken, DropMalformed}
-use Rattle.verdict.specs.declared.CounterSlot.{CounterSlot}
-use Rattle.verdict.specs.declared.CounterSlot.TheVariants.{Uncounted, Slot}
 
 -- the verdict of a slot's number
 verdict_numbered : ℕ → FenceVerdict
@@ -42,18 +41,14 @@ pub slot-number-byte : (v : FenceVerdict) → slot_number (slot_of v) ≤ 255
 slot-number-byte v = (known v).1
 
 -- a slot from its list of numbers
-slot_with : List ℕ → CounterSlot
-slot_with [] = Uncounted
-slot_with (n ∷ ns) = Slot n
+slot_with : List ℕ → Option ℕ
+slot_with [] = None
+slot_with (n ∷ ns) = Some n
 
-numbered : (s : CounterSlot) → slot_with (slot_numbers s) ≡ s
+numbered : (s : Option ℕ) → slot_with (slot_numbers s) ≡ s
 unfolding slot_with
-numbered Uncounted = refl
-numbered (Slot n) = refl
+numbered None = refl
+numbered (Some n) = refl
 
-pub number-injective : (s t : CounterSlot) → slot_numbers s ≡ slot_numbers t → s ≡ t
+pub number-injective : (s t : Option ℕ) → slot_numbers s ≡ slot_numbers t → s ≡ t
 number-injective s t h = sym (numbered s) ∙ ap slot_with h ∙ numbered t
-
--- of a slot that has a verdict's numbers, whatever it is known to be, the number is the verdict's
-pub number_of : (v : FenceVerdict) (s t : CounterSlot) → slot_numbers s ≡ slot_numbers (slot_of v) → s ≡ t → slot_number t ≡ slot_number (slot_of v)
-number_of v s t p q = ap slot_number (sym q ∙ number-injective s (slot_of v) p)

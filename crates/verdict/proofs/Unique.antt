@@ -1,13 +1,12 @@
--- The answer of each public function is its contract's alone. A verdict is told by its slot, a slot by its numbers: no two share one.
--- Assumes nothing.
+-- The answer of each public function is its contract's alone. A verdict is told by its slot: no two share one. Assumes nothing.
 use Rattle.octets.proofs.UniqueLaws.{as-told, as-numbered}
 use Rattle.octets.specs.Determined.{Determined}
-use Rattle.verdict.specs.Verdict.{slot_of, slot_numbers}
+use Rattle.verdict.specs.Verdict.{slot_of}
 pub use Rattle.verdict.proofs.Laws.{slot-injective, number-injective}
 use Rattle.verdict.proofs as the
 
 pub counter-slot-determined : Determined the.FenceVerdict.counter_slot.Kinds.ps the.FenceVerdict.counter_slot.Kinds.r the.FenceVerdict.counter_slot.Reads.Learnt
-counter-slot-determined κs a x y u v = as-numbered slot_numbers number-injective x y
+counter-slot-determined κs a x y u v = as-told
 
 pub slot-number-determined : Determined the.FenceVerdict.slot_number.Kinds.ps the.FenceVerdict.slot_number.Kinds.r the.FenceVerdict.slot_number.Reads.Learnt
 slot-number-determined κs a x y u v = as-told

@@ -2,10 +2,10 @@
 #![tactic(auto)]
 
 ghost use Rattle.std.specs.Prelude.{◌≡◌};
-ghost use Rattle.verdict.specs.Verdict.{slot_of, slot_numbers, slot_number, dropped, stale_authority, entry_verdict, protected_verdict, egress_verdict};
+ghost use Rattle.verdict.specs.Verdict.{slot_of, slot_number, dropped, stale_authority, entry_verdict, protected_verdict, egress_verdict};
 
 use packet::PacketEndpointDisposition;
-use records::entry::{FenceEntry, FenceEntryState};
+use records::entry::FenceEntry;
 use units::{BootNs, DurableFenceToken, SocketCookie};
 
 // The slots of the counter map, which has eight; slot 1 is reserved.
@@ -56,27 +56,20 @@ pub enum FenceVerdict {
     DropMalformed,
 }
 
-// The slot in which a verdict is counted, if it is counted at all.
-#[derive(Clone, Copy, Debug, PartialEq, Eq)]
-pub enum CounterSlot {
-    Uncounted,
-    Slot(u32),
-}
-
 impl FenceVerdict {
     // The slot of the counter map in which the verdict is counted.
-    pub fn counter_slot(self) -> CounterSlot
-        ensures { slot_numbers result ≡ slot_numbers (slot_of self) }
+    pub fn counter_slot(self) -> Option<u32>
+        ensures { result ≡ slot_of self }
     {
         match self {
-            FenceVerdict::PassUnrelated => CounterSlot::Uncounted,
-            FenceVerdict::Allow => CounterSlot::Slot(COUNTER_ALLOWED),
-            FenceVerdict::DropCookieZero => CounterSlot::Slot(COUNTER_COOKIE_ZERO),
-            FenceVerdict::DropMissing => CounterSlot::Slot(COUNTER_COOKIE_MISSING),
-            FenceVerdict::DropClosed => CounterSlot::Slot(COUNTER_CLOSED),
-            FenceVerdict::DropExpired => CounterSlot::Slot(COUNTER_EXPIRED),
-            FenceVerdict::DropStaleToken => CounterSlot::Slot(COUNTER_STALE_TOKEN),
-            FenceVerdict::DropMalformed => CounterSlot::Slot(COUNTER_MALFORMED),
+            FenceVerdict::PassUnrelated => None,
+            FenceVerdict::Allow => Some(COUNTER_ALLOWED),
+            FenceVerdict::DropCookieZero => Some(COUNTER_COOKIE_ZERO),
+            FenceVerdict::DropMissing => Some(COUNTER_COOKIE_MISSING),
+            FenceVerdict::DropClosed => Some(COUNTER_CLOSED),
+            FenceVerdict::DropExpired => Some(COUNTER_EXPIRED),
+            FenceVerdict::DropStaleToken => Some(COUNTER_STALE_TOKEN),
+            FenceVerdict::DropMalformed => Some(COUNTER_MALFORMED),
         }
     }
 
@@ -84,10 +77,9 @@ impl FenceVerdict {
     pub fn slot_number(self) -> u8
         ensures { result ≡ slot_number (slot_of self) }
     {
-        let slot = self.counter_slot();
-        match slot {
-            CounterSlot::Uncounted => 255,
-            CounterSlot::Slot(number) => number as u8,
+        match self.counter_slot() {
+            Some(number) => number as u8,
+            None => 255,
         }
     }
 
@@ -95,16 +87,7 @@ impl FenceVerdict {
     pub fn must_drop(self) -> bool
         ensures { result ≡ dropped (slot_of self) }
     {
-        match self {
-            FenceVerdict::PassUnrelated => false,
-            FenceVerdict::Allow => false,
-            FenceVerdict::DropCookieZero => true,
-            FenceVerdict::DropMissing => true,
-            FenceVerdict::DropClosed => true,
-            FenceVerdict::DropExpired => true,
-            FenceVerdict::DropStaleToken => true,
-            FenceVerdict::DropMalformed => true,
-        }
+        !matches!(self, FenceVerdict::PassUnrelated | FenceVerdict::Allow)
     }
 }
 
@@ -117,17 +100,11 @@ pub struct PacketFenceContext {
     pub socket_cookie: SocketCookie,
 }
 
-// The entry of the socket, if it is registered.
-#[derive(Clone, Copy, Debug, PartialEq, Eq)]
-pub enum RegisteredEntry {
-    Absent,
-    Present(FenceEntry),
-}
-
 // What is known of the authority, as of one moment.
 #[derive(Clone, Copy, Debug, PartialEq, Eq)]
 pub struct FenceAuthoritySnapshot {
-    pub entry: RegisteredEntry,
+    // The entry of the socket, if it is registered.
+    pub entry: Option<FenceEntry>,
     pub current_durable_fence_token: DurableFenceToken,
     pub current_registered_socket_cookie: SocketCookie,
     pub now_boot_ns: BootNs,
@@ -155,7 +132,7 @@ impl PacketFenceContext {
 impl FenceAuthoritySnapshot {
     // The snapshot of its parts.
     pub fn new(
-        entry: RegisteredEntry,
+        entry: Option<FenceEntry>,
         current_durable_fence_token: DurableFenceToken,
         current_registered_socket_cookie: SocketCookie,
         now_boot_ns: BootNs,
@@ -176,20 +153,12 @@ impl FenceAuthoritySnapshot {
 fn is_stale(cookie: SocketCookie, entry: FenceEntry, authority: FenceAuthoritySnapshot) -> bool
     ensures { result ≡ stale_authority cookie.0 entry authority }
 {
-    let own = cookie.0;
-    let token = entry.durable_fence_token.0;
-    let current = authority.current_durable_fence_token.0;
-    let registered = authority.current_registered_socket_cookie.0;
-    if current == 0 {
-        return true;
-    }
-    if registered == 0 {
-        return true;
-    }
-    if own != registered {
-        return true;
-    }
-    token != current
+    let current = authority.current_durable_fence_token;
+    let registered = authority.current_registered_socket_cookie;
+    current.0 == 0
+        || registered.0 == 0
+        || cookie != registered
+        || entry.durable_fence_token != current
 }
 
 // The verdict under an entry that is the current one: by its state, then by its deadline.
@@ -197,42 +166,28 @@ fn is_stale(cookie: SocketCookie, entry: FenceEntry, authority: FenceAuthoritySn
 fn decide_entry(entry: FenceEntry, now_boot_ns: BootNs) -> FenceVerdict
     ensures { slot_of result ≡ entry_verdict entry now_boot_ns.0 }
 {
-    let state = entry.state;
-    let deadline = entry.deadline_boot_ns.0;
-    let now = now_boot_ns.0;
-    match state {
-        FenceEntryState::InitialClosed => FenceVerdict::DropClosed,
-        FenceEntryState::TerminalClosed => FenceVerdict::DropClosed,
-        FenceEntryState::Reclaiming => FenceVerdict::DropClosed,
-        FenceEntryState::Active => {
-            if deadline <= now {
-                FenceVerdict::DropExpired
-            } else {
-                FenceVerdict::Allow
-            }
-        }
+    if entry.is_closed() {
+        return FenceVerdict::DropClosed;
+    }
+    if entry.deadline_boot_ns <= now_boot_ns {
+        FenceVerdict::DropExpired
+    } else {
+        FenceVerdict::Allow
     }
 }
 
 // The verdict on a protected packet of a socket.
+#[tactic(auto, unfolding(crate::specs::Verdict::protected_verdict))]
 fn decide_protected(cookie: SocketCookie, authority: FenceAuthoritySnapshot) -> FenceVerdict
     ensures { slot_of result ≡ protected_verdict cookie.0 authority }
 {
-    let own = cookie.0;
-    let registered = authority.entry;
-    let now = authority.now_boot_ns;
-    if own == 0 {
+    if cookie.0 == 0 {
         return FenceVerdict::DropCookieZero;
     }
-    match registered {
-        RegisteredEntry::Absent => FenceVerdict::DropMissing,
-        RegisteredEntry::Present(entry) => {
-            if is_stale(cookie, entry, authority) {
-                FenceVerdict::DropStaleToken
-            } else {
-                decide_entry(entry, now)
-            }
-        }
+    match authority.entry {
+        None => FenceVerdict::DropMissing,
+        Some(entry) if is_stale(cookie, entry, authority) => FenceVerdict::DropStaleToken,
+        Some(entry) => decide_entry(entry, authority.now_boot_ns),
     }
 }
 
@@ -241,19 +196,15 @@ fn decide_protected(cookie: SocketCookie, authority: FenceAuthoritySnapshot) -> 
 pub fn decide_egress(packet: PacketFenceContext, authority: FenceAuthoritySnapshot) -> FenceVerdict
     ensures { slot_of result ≡ egress_verdict packet authority }
 {
-    let valid = packet.attachment_identity_valid;
-    let matches = packet.socket_endpoint_matches;
-    let disposition = packet.endpoint_disposition;
-    let cookie = packet.socket_cookie;
-    if !valid {
+    if !packet.attachment_identity_valid {
         return FenceVerdict::DropMalformed;
     }
-    if !matches {
-        match disposition {
+    if !packet.socket_endpoint_matches {
+        match packet.endpoint_disposition {
             PacketEndpointDisposition::Unrelated => return FenceVerdict::PassUnrelated,
             PacketEndpointDisposition::Indeterminate => return FenceVerdict::DropMalformed,
             PacketEndpointDisposition::Protected => {}
         }
     }
-    decide_protected(cookie, authority)
+    decide_protected(packet.socket_cookie, authority)
 }

@@ -1,8 +1,10 @@
--- `padded`: four stores into zeros are the four octets and twelve zeros. Assumes nothing.
-use Rattle.octets.specs.Octets.{octets_at}
-use Rattle.octets.proofs.Tools.{refl}
+-- `padded`: the four octets are the whole of the address. Assumes nothing.
+use Rattle.octets.specs.Words.{◌++◌, length, replicate}
+use Rattle.octets.proofs.Tools.{sym, ap, ◌∙◌}
+use Rattle.octets.proofs.OctetsLaws.{octets-whole}
 use Rattle.endpoint.proofs.padded.Goals as goal
 
 pub returns : goal.returns
-unfolding octets_at
-returns c = refl
+returns c =
+    let e = c.copy_from_slice.ensures in
+    ap (λ l. l ++ replicate 12 0) (e.after ∙ sym (octets-whole c.args.address 4 (sym (ap length e.after) ∙ e.len)))

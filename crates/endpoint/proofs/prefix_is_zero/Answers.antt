@@ -3,4 +3,4 @@ use Rattle.endpoint.proofs.ZeroLaws.{zero-two}
 use Rattle.endpoint.proofs.prefix_is_zero.Goals as goal
 
 pub returns : goal.returns
-returns c = zero-two _ 0 8 2 c.get_u64_le.ensures c.get_u16_le.ensures
+returns c = zero-two _ 0 8 2 c.get_le.ensures c.get_le-2.ensures

@@ -7,13 +7,13 @@ use Rattle.octets.proofs.is_zero_run.Goals as goal
 pub returns-then-last-i : goal.returns-then-last-i
 returns-then-last-i c = c.is_zero-then-last-i.ensures ∙ sym c.loop-left.invariant
 
-pub returns-then-get_u64_le-ne0 : goal.returns-then-get_u64_le-ne0
-returns-then-get_u64_le-ne0 c =
-    rw (c.loop-left.invariant, zero-eight _ _ _ c.loop-left-test.true, ← c.get_u64_le.ensures, ne_eqb _ _ c.if-get_u64_le-ne0.true)
+pub returns-then-get_le-ne0 : goal.returns-then-get_le-ne0
+returns-then-get_le-ne0 c =
+    rw (c.loop-left.invariant, zero-eight _ _ _ c.loop-left-test.true, ← c.get_le.ensures, ne_eqb _ _ c.if-get_le-ne0.true)
 
 pub loop-left-preserved : goal.loop-left-preserved
 loop-left-preserved c =
-    rw (c.loop-left.invariant, zero-eight _ _ _ c.loop-left-test.true, ← c.get_u64_le.ensures, eq-eqb _ _ c.if-get_u64_le-ne0.false)
+    rw (c.loop-left.invariant, zero-eight _ _ _ c.loop-left-test.true, ← c.get_le.ensures, eq-eqb _ _ c.if-get_le-ne0.false)
 
 pub returns : goal.returns
 returns c = c.is_zero-2.ensures ∙ sym c.loop-left.invariant

@@ -1,13 +1,11 @@
--- `find_record`: no record before `at` stands under the key, so the first that does from there on is the first of all. A turn passes two
--- records; where less than two are left, `find_last` goes on. Assumes nothing.
-use Rattle.octets.specs.Words.{◌-◌, ◌≤◌, ◌≡◌, length, drop}
+-- `find_record`: no record before the i-th pair stands under the key, so the first that does from there on is the first of all. What is left
+-- after the last pair is for `find_last`. Assumes nothing.
+use Rattle.octets.specs.Words.{◌*◌, ◌≡◌, drop}
 use Rattle.table.specs.Table.{records}
 use Rattle.table.proofs.TableLaws.{searched}
 use Rattle.table.proofs.find_record.Given as goal
 
-abbrev pub invariant-loop-at : goal.invariant-loop-at
-invariant-loop-at l =
-    (l.at ≤ length l.table) × (searched 0 l.cookie.0 l.token.0 (records l.table) ≡ searched l.at l.cookie.0 l.token.0 (records (drop l.at l.table)))
-
-abbrev pub decreases-loop-at : goal.decreases-loop-at
-decreases-loop-at l = length l.table - l.at
+abbrev pub invariant-loop-i : goal.invariant-loop-i
+invariant-loop-i l =
+    searched 0 l.key.socket_cookie.0 l.key.durable_fence_token.0 (records l.table) ≡
+    searched (l.i * 80) l.key.socket_cookie.0 l.key.durable_fence_token.0 (records (drop (l.i * 80) l.table))

@@ -4,6 +4,3 @@ use Rattle.text.proofs.digits_of.Given as goal
 
 abbrev pub invariant-loop-i : goal.invariant-loop-i
 invariant-loop-i l = Digits l.n l.i l.left l.digits
-
-abbrev pub decreases-loop-i : goal.decreases-loop-i
-decreases-loop-i l = l.i

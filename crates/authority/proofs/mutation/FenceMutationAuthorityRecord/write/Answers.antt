@@ -6,4 +6,4 @@ use Rattle.authority.proofs.mutation.FenceMutationAuthorityRecord.write.Goals as
 pub returns : goal.returns
 returns c =
     let a = c.args in
-    rw (c.put_u64_le-2.ensures, c.put_u64_le.ensures) (puts-laid mutation_codec.layout (mutation_codec.fields a.self) a.out.now 0)
+    rw (c.put_le-2.ensures, c.put_le.ensures) (puts-laid mutation_codec.layout (mutation_codec.fields a.self) a.out.now 0)

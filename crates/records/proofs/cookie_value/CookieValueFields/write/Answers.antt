@@ -6,4 +6,4 @@ use Rattle.records.proofs.cookie_value.CookieValueFields.write.Goals as goal
 pub returns : goal.returns
 returns c =
     let a = c.args in
-    rw (c.put_u64_le-4.ensures, c.put_u64_le-3.ensures, c.put_u64_le-2.ensures, c.put_u64_le.ensures, c.put_u32_le-2.ensures, c.put_u32_le.ensures) (puts-laid cookie_value_codec.layout (cookie_value_numbers a.self) a.out.now 0)
+    rw (c.put_le-6.ensures, c.put_le-5.ensures, c.put_le-4.ensures, c.put_le-3.ensures, c.put_le-2.ensures, c.put_le.ensures) (puts-laid cookie_value_codec.layout (cookie_value_numbers a.self) a.out.now 0)

@@ -6,4 +6,4 @@ use Rattle.records.proofs.key.FenceCookieKeyRecord.write.Goals as goal
 pub returns : goal.returns
 returns c =
     let a = c.args in
-    rw (c.put_u64_le-2.ensures, c.put_u64_le.ensures) (puts-laid key_codec.layout (key_codec.fields a.self) a.out.now 0)
+    rw (c.put_le-2.ensures, c.put_le.ensures) (puts-laid key_codec.layout (key_codec.fields a.self) a.out.now 0)

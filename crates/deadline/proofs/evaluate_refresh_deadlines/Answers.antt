@@ -1,2 +1,0 @@
--- The check meets its contract: on each way to a `return` the tests taken and left are the definition's, in the definition's order. So each
--- goal is answered by the definition unfolded, as the attribute on the function says, and none is left to answer here. Assumes nothing.

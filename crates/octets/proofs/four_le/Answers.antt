@@ -1,7 +1,0 @@
--- `four_le`: the law of two halves at 2 and 2 octets. Assumes nothing.
-use Rattle.octets.proofs.Tools.{arith}
-use Rattle.octets.proofs.OctetsLaws.{le_parts}
-use Rattle.octets.proofs.four_le.Goals as goal
-
-pub returns : goal.returns
-returns c = let a = c.args in omega (arith, le_parts a.s.now a.at 2 2)

@@ -1,5 +1,0 @@
--- The measure of a walk is its allowance.
-use Rattle.packet.proofs.+walk.Given as goal
-
-abbrev pub decreases-walk : goal.decreases-walk
-decreases-walk l = l.allowance

@@ -1,2 +1,0 @@
--- `decide_egress`: the attachment, then the packet where the socket does not match; what is left is the socket's. The attribute on the
--- function, which opens the definition, answers the goals. Assumes nothing.

@@ -1,2 +1,0 @@
--- `decide_entry`: the state decides, and for an Active one the deadline. The attribute on the function, which opens the definition, answers
--- the goals. Assumes nothing.

@@ -1,2 +1,0 @@
--- `is_stale`: the four tests are the definition's, in its order. The attribute on the function, which opens the definition, answers the
--- goals. Assumes nothing.
