@@ -1,15 +1,13 @@
 -- An inspection obeys the laws of every codec because its parts do: its rule is theirs one after the other (`ruled`), and each part's
 -- numbers are back from the part. Assumes nothing.
-use Rattle.octets.specs.Words.{ℕ, ◌+◌, ◌-◌, ◌≤◌, ◌≡◌, Bool, true, false, not, ◌&&◌, ◌||◌, List, [], ◌∷◌, ◌++◌, length, get_or, take, drop, eqb}
+use Rattle.octets.specs.Words.{ℕ, ◌≡◌, Bool, true, false, not, ◌&&◌, ◌||◌, List, [], ◌∷◌, ◌++◌, length, get_or, take, drop, eqb}
+use Rattle.std.specs.Prelude.{Option, None, Some}
 use Rattle.octets.specs.Octets.{octets_at, put, le_bytes, all_zero}
-use Rattle.octets.proofs.Tools.{refl, sym, ap, ◌∙◌, arith, eqb-true}
-use Rattle.octets.proofs.OctetsLaws.{put-part}
+use Rattle.octets.proofs.Tools.{refl, sym, ap, ◌∙◌, eqb-true}
 use mathlib.Core.Bool.{and-true}
 use mathlib.Core.Path.{subst}
-use mathlib.Core.List.{append-nil}
 use lib.Dec.{lit<}
-use lib.ListN.{length-drop, drop_of_length-le}
-use lib.Seq.{take_all}
+use lib.ListN.{length-append}
 use Rattle.codec.specs.Layout.{laid, Fit}
 use Rattle.codec.specs.Codec.{Test, test, passes, shifted, given, ok, sound, bytes}
 use Rattle.codec.specs.Head.{head_layout, head_fields}
@@ -20,10 +18,9 @@ use Rattle.authority.specs.declared.current.CurrentFenceToken.{CurrentFenceToken
 use Rattle.authority.specs.declared.mutation.FenceMutationAuthority.{FenceMutationAuthority}
 use Rattle.authority.specs.Current.{current_codec}
 use Rattle.authority.specs.Mutation.{mutation_codec}
+use Rattle.records.specs.declared.cookie_value.FenceCookieValue.{FenceCookieValue}
 use Rattle.records.specs.CookieValue.{cookie_value_codec}
 use Rattle.authority.proofs.AuthorityLaws.{current-lawful, mutation-lawful}
-use Rattle.inspection.specs.declared.inspected.InspectedEntry.{InspectedEntry}
-use Rattle.inspection.specs.declared.inspected.InspectedEntry.TheVariants.{Absent, Present}
 use Rattle.inspection.specs.declared.FenceInspection.{FenceInspection}
 use Rattle.inspection.specs.Inspected.{flag_listed, present_flag, part_fields, sound_part}
 use Rattle.inspection.specs.Inspection.{inspection_mark, inspection, front_tests, part_tests, tail_layout, inspection_codec, InspectionFormed}
@@ -73,22 +70,15 @@ fails a b e h = e ∙ ap (λ t. t && b) h
 
 -- ---- a record by its parts
 
-sound-parts : (c : CurrentFenceToken) (m : FenceMutationAuthority) (e : InspectedEntry) →
+sound-parts : (c : CurrentFenceToken) (m : FenceMutationAuthority) (e : Option FenceCookieValue) →
     (passes front_tests (inspection_codec.fields (inspection c m e)) && from_current (inspection_codec.fields (inspection c m e)))
     ≡ (sound current_codec c && (sound mutation_codec m && sound_part e))
 unfolding all_zero
-sound-parts c m Absent = refl
-sound-parts c m (Present v) = ap (λ b. sound current_codec c && (sound mutation_codec m && b)) (and-true (sound cookie_value_codec v))
+sound-parts c m None = refl
+sound-parts c m (Some v) = ap (λ b. sound current_codec c && (sound mutation_codec m && b)) (and-true (sound cookie_value_codec v))
 
 pub inspection-sound : InspectionSound
 inspection-sound v = ruled (inspection_codec.fields v) ∙ sound-parts v.current v.mutation v.entry
-
--- octets put into a part that reaches to the end stand in the whole
-pub into-part : {x : List ℕ} (d : List ℕ) (k : ℕ) (bs : List ℕ) → k + length bs ≤ length d → x ≡ put (take (length d - k) (drop k d)) 0 bs →
-    take k d ++ (x ++ drop (length d - k) (drop k d)) ≡ put d k bs
-into-part d k bs h e =
-    let all : length (drop k d) ≤ length d - k = rw length-drop (omega arith) in
-    rw (e, take_all (length d - k) (drop k d) all, drop_of_length-le (drop k d) all, append-nil) (put-part d k bs h)
 
 -- the parts put at their places are the record's bytes put at the start
 pub parts-put : (v : FenceInspection) (d : List ℕ) →
@@ -107,13 +97,12 @@ parts-put v d =
 
 -- ---- the laws
 
-counted : (c : CurrentFenceToken) (m : FenceMutationAuthority) (e : InspectedEntry) → length (inspection_codec.fields (inspection c m e)) ≡ length inspection_codec.layout
-counted c m Absent = refl
-counted c m (Present v) = refl
+counted : (v : FenceInspection) → length (inspection_codec.fields v) ≡ length inspection_codec.layout
+counted v = simp (length-append, length_part)
 
-flag-fits : (e : InspectedEntry) → Fit head_layout (head_fields inspection_mark 5 (present_flag e))
-flag-fits Absent = (lit< tt, (lit< tt, (lit< tt, (lit< tt, tt))))
-flag-fits (Present v) = (lit< tt, (lit< tt, (lit< tt, (lit< tt, tt))))
+flag-fits : (e : Option FenceCookieValue) → Fit head_layout (head_fields inspection_mark 5 (present_flag e))
+flag-fits None = (lit< tt, (lit< tt, (lit< tt, (lit< tt, tt))))
+flag-fits (Some v) = (lit< tt, (lit< tt, (lit< tt, (lit< tt, tt))))
 
 fits : (v : FenceInspection) → InspectionFormed v → Fit inspection_codec.layout (inspection_codec.fields v)
 fits v f =
@@ -126,10 +115,10 @@ fits v f =
     (fit_append mutation_codec.layout layout₃ (mutation_codec.fields v.mutation) numbers₃ (mutation-lawful.fits v.mutation f.1)
     (fit_append cookie_value_codec.layout tail_layout (part_fields v.entry) (0 ∷ []) (part-fits v.entry f.2) (lit< tt, tt))))
 
-forth : (c : CurrentFenceToken) (m : FenceMutationAuthority) (e : InspectedEntry) → InspectionFormed (inspection c m e) → sound current_codec c ≡ true →
+forth : (c : CurrentFenceToken) (m : FenceMutationAuthority) (e : Option FenceCookieValue) → InspectionFormed (inspection c m e) → sound current_codec c ≡ true →
     inspection_codec.of (inspection_codec.fields (inspection c m e)) ≡ inspection c m e
-forth c m Absent f h = λ i. inspection (current-lawful.forth c f.0 h i) m Absent
-forth c m (Present v) f h = λ i. inspection (current-lawful.forth c f.0 h i) m (part-forth (Present v) i)
+forth c m None f h = λ i. inspection (current-lawful.forth c f.0 h i) m None
+forth c m (Some v) f h = λ i. inspection (current-lawful.forth c f.0 h i) m (part-forth (Some v) i)
 
 back : (m v f p z k t c g n z' k' c' t' d e a : ℕ) →
     let vs : List ℕ = m ∷ v ∷ f ∷ p ∷ z ∷ k ∷ t ∷ c ∷ g ∷ n ∷ z' ∷ k' ∷ c' ∷ t' ∷ d ∷ e ∷ a ∷ [] in
@@ -163,7 +152,7 @@ inspection-lawful = record {
       (back (get_or vs 0 0) (get_or vs 1 0) (get_or vs 2 0) (get_or vs 3 0) (get_or vs 4 0) (get_or vs 5 0) (get_or vs 6 0) (get_or vs 7 0) (get_or vs 8 0) (get_or vs 9 0) (get_or vs 10 0) (get_or vs 11 0) (get_or vs 12 0) (get_or vs 13 0) (get_or vs 14 0) (get_or vs 15 0) (get_or vs 16 0)) f h;
   forth = λ v f h. forth v.current v.mutation v.entry f (and_left (sound current_codec v.current) _ (sym (inspection-sound v) ∙ h));
   fits = fits;
-  counted = λ v. counted v.current v.mutation v.entry;
+  counted = counted;
 }
 
 pub inspection-laws : InspectionLaws

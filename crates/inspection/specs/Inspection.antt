@@ -1,6 +1,6 @@
 -- Document 01, 'Record layouts': "Inspection, 128: "OEI1"; version 5; flag 0 or 1; 0; Current at 8; Mutation at 32; Cookie value at
 -- 48, all zero with flag 0; 88 to 127 zero." Assumes nothing.
-use Rattle.std.specs.Prelude.{ℕ, List, [], ◌∷◌, ◌++◌, get_or, take, drop, eqb}
+use Rattle.std.specs.Prelude.{ℕ, List, [], ◌∷◌, ◌++◌, get_or, take, drop, eqb, Option, None}
 use Rattle.octets.specs.Octets.{all_zero}
 use Rattle.codec.specs.Layout.{Field, little}
 use Rattle.codec.specs.Codec.{Test, test, shifted, given, Codec}
@@ -9,9 +9,8 @@ use Rattle.authority.specs.declared.current.CurrentFenceToken.{CurrentFenceToken
 use Rattle.authority.specs.declared.mutation.FenceMutationAuthority.{FenceMutationAuthority}
 use Rattle.authority.specs.Current.{current_codec, CurrentFormed}
 use Rattle.authority.specs.Mutation.{mutation_codec, MutationFormed}
+use Rattle.records.specs.declared.cookie_value.FenceCookieValue.{FenceCookieValue}
 use Rattle.records.specs.CookieValue.{cookie_value_codec}
-use Rattle.inspection.specs.declared.inspected.InspectedEntry.{InspectedEntry}
-use Rattle.inspection.specs.declared.inspected.InspectedEntry.TheVariants.{Absent}
 use Rattle.inspection.specs.declared.FenceInspection.{FenceInspection}
 use Rattle.inspection.specs.Inspected.{flag_listed, present_flag, part_fields, part_of, PartFormed}
 
@@ -19,7 +18,7 @@ use Rattle.inspection.specs.Inspected.{flag_listed, present_flag, part_fields, p
 abbrev pub inspection_mark : ℕ
 inspection_mark = 0x4f45_4931
 
-abbrev pub inspection : CurrentFenceToken → FenceMutationAuthority → InspectedEntry → FenceInspection
+abbrev pub inspection : CurrentFenceToken → FenceMutationAuthority → Option FenceCookieValue → FenceInspection
 inspection c m e = record { current = c; mutation = m; entry = e }
 
 -- mark, version 5, flag and zero
@@ -46,7 +45,7 @@ inspection_codec = record {
   fields = λ v.
       head_fields inspection_mark 5 (present_flag v.entry) ++
       (current_codec.fields v.current ++ (mutation_codec.fields v.mutation ++ (part_fields v.entry ++ (0 ∷ []))));
-  blank = inspection current_codec.blank mutation_codec.blank Absent;
+  blank = inspection current_codec.blank mutation_codec.blank None;
 }
 
 -- a value of its type

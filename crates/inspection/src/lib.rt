@@ -1,65 +1,42 @@
 // An inspection, 128 bytes: the current record, the mutation authority and perhaps a cookie value, as they stood at one moment. Each
-// part is read and written by its own record's functions; the numbers given back are those of `records`.
+// part is read and written by its own record's functions, and its refusal is the whole's.
 #![tactic(auto)]
 
 pub mod inspected;
+mod parts;
 
-ghost use Rattle.std.specs.Prelude.{◌≡◌};
-ghost use Rattle.codec.specs.Codec.{passes, Made, Decoded, Encoded, sound};
+ghost use Rattle.std.specs.Prelude.{refl, ◌≡◌, length};
+ghost use Rattle.std.specs.declared.option.Option.TheVariants.{None, Some};
+ghost use Rattle.codec.specs.Codec.{passes};
+ghost use Rattle.codec.specs.Answers.{Makes};
 ghost use Rattle.codec.specs.Head.{head_numbers};
-ghost use Rattle.inspection.specs.Inspected.{part_numbers};
 ghost use Rattle.inspection.specs.Inspection.{inspection, front_tests, inspection_codec};
 
-use crate::inspected::InspectedEntry;
+use crate::parts::{read_at, write_at};
 use authority::current::CurrentFenceToken;
 use authority::mutation::FenceMutationAuthority;
-use codec::Head;
+use codec::{Head, Record, Refusal};
+use records::cookie_value::FenceCookieValue;
 
 // An inspection, 128 bytes: the current record, the mutation authority, and the entry that was looked up, if there is one.
 #[derive(Clone, Copy, Debug, PartialEq, Eq)]
 pub struct FenceInspection {
     pub current: CurrentFenceToken,
     pub mutation: FenceMutationAuthority,
-    pub entry: InspectedEntry,
-}
-
-// What a constructor or the decoder answers: 0 and the record, or a refusal's number and the all-zero record.
-#[derive(Clone, Copy, Debug, PartialEq, Eq)]
-pub struct InspectionAnswer {
-    pub number: u32,
-    pub value: FenceInspection,
-}
-
-// A refusal.
-fn refused(number: u32) -> InspectionAnswer
-    ensures { (result.number ≡ number) × (result.value ≡ inspection_codec.blank) }
-{
-    let current = CurrentFenceToken::initial().value;
-    let mutation = FenceMutationAuthority::initial().value;
-    InspectionAnswer {
-        number,
-        value: FenceInspection {
-            current,
-            mutation,
-            entry: InspectedEntry::Absent,
-        },
-    }
+    pub entry: Option<FenceCookieValue>,
 }
 
 // Mark, version, flag and the zero after it.
 fn head_is_right(head: Head) -> bool
     ensures { result ≡ passes front_tests (head_numbers head) }
 {
-    let flag = head.byte;
     (head.mark == FenceInspection::MARK)
-        & ((head.version == FenceInspection::VERSION)
-            & (((flag == 0) | (flag == 1)) & (head.zero == 0)))
+        & (head.version == FenceInspection::VERSION)
+        & matches!(head.byte, 0 | 1)
+        & (head.zero == 0)
 }
 
 impl FenceInspection {
-    // The length of the record's bytes.
-    pub const LEN: usize = 128;
-
     // "OEI1", first octet first.
     pub const MARK: u32 = 0x4f45_4931;
 
@@ -70,9 +47,9 @@ impl FenceInspection {
     pub fn new(
         current: CurrentFenceToken,
         mutation: FenceMutationAuthority,
-        entry: InspectedEntry,
-    ) -> InspectionAnswer
-        ensures { Made inspection_codec (inspection current mutation entry) result.number result.value }
+        entry: Option<FenceCookieValue>,
+    ) -> Result<FenceInspection, Refusal>
+        ensures { Makes inspection_codec (inspection current mutation entry) result }
     {
         let value = FenceInspection {
             current,
@@ -80,9 +57,9 @@ impl FenceInspection {
             entry,
         };
         if value.is_sound() {
-            InspectionAnswer { number: 0, value }
+            Ok(value)
         } else {
-            refused(2)
+            Err(Refusal::BrokenRule)
         }
     }
 
@@ -100,80 +77,64 @@ impl FenceInspection {
         self.mutation
     }
 
-    // The inner entry, told by its numbers.
-    pub fn entry(self) -> InspectedEntry
-        ensures { part_numbers result ≡ part_numbers self.entry }
+    // The inner entry.
+    pub fn entry(self) -> Option<FenceCookieValue>
+        ensures { result ≡ self.entry }
     {
         self.entry
     }
+}
 
-    // Whether the decoder gives this record for some bytes: its parts are sound.
-    pub fn is_sound(self) -> bool
-        ensures { result ≡ sound inspection_codec self }
-    {
-        let current = self.current;
-        let mutation = self.mutation;
-        let entry = self.entry;
-        current.is_sound() && (mutation.is_sound() && entry.is_sound())
+impl Record for FenceInspection {
+    ghost codec = { inspection_codec };
+
+    const LEN: usize = 128;
+
+    ghost LEN = { 128 };
+
+    ghost sized = { refl };
+
+    ghost counted = { λ v. elim v.entry as (λ e. length (inspection_codec.fields (inspection v.current v.mutation e)) ≡ length inspection_codec.layout) [ None ↦ refl | Some w ↦ refl ] };
+
+    fn blank() -> FenceInspection {
+        FenceInspection {
+            current: CurrentFenceToken::blank(),
+            mutation: FenceMutationAuthority::blank(),
+            entry: None,
+        }
     }
 
-    // The record that bytes stand for, each part by its own decoder.
-    pub fn decode(s: &[u8]) -> InspectionAnswer
-        ensures { Decoded inspection_codec s.now result.number result.value }
-    {
-        if s.len() != FenceInspection::LEN {
-            return refused(1);
-        }
+    fn is_sound(self) -> bool {
+        self.current.is_sound() && (self.mutation.is_sound() && inspected::is_sound(self.entry))
+    }
+
+    fn read(s: &[u8]) -> Result<FenceInspection, Refusal> {
         let head = codec::get_head(s);
         if !head_is_right(head) {
-            return refused(2);
+            return Err(Refusal::BrokenRule);
         }
-        let current = CurrentFenceToken::decode(&s[8..32]);
-        if current.number != 0 {
-            return refused(2);
-        }
-        let mutation = FenceMutationAuthority::decode(&s[32..48]);
-        if mutation.number != 0 {
-            return refused(2);
-        }
-        let part = crate::inspected::read_part(head.byte, &s[48..88]);
-        if !part.taken {
-            return refused(2);
-        }
-        if !octets::is_zero_run(s, 88, 40) {
-            return refused(2);
-        }
-        let current = current.value;
-        let mutation = mutation.value;
-        let entry = part.value;
         let value = FenceInspection {
-            current,
-            mutation,
-            entry,
+            current: read_at(s, 8)?,
+            mutation: read_at(s, 32)?,
+            entry: inspected::read(head.byte, s)?,
         };
-        InspectionAnswer { number: 0, value }
+        if octets::is_zero_run(s, 88, 40) {
+            Ok(value)
+        } else {
+            Err(Refusal::BrokenRule)
+        }
     }
 
-    // The record's bytes, written at the start, each part by its own writer.
-    pub fn encode(self, out: &mut [u8]) -> u32
-        ensures { Encoded inspection_codec self out.old result out.new }
-    {
-        let number = codec::encode_number(self.is_sound(), FenceInspection::LEN, out.len());
-        if number == 0 {
-            let current = self.current;
-            let mutation = self.mutation;
-            let entry = self.entry;
-            codec::put_head(
-                out,
-                FenceInspection::MARK,
-                FenceInspection::VERSION,
-                entry.flag(),
-            );
-            current.write(&mut out[8..]);
-            mutation.write(&mut out[32..]);
-            entry.write(&mut out[48..]);
-            crate::inspected::put_zeros(&mut out[88..]);
-        }
-        number
+    fn write(self, out: &mut [u8]) {
+        codec::put_head(
+            out,
+            FenceInspection::MARK,
+            FenceInspection::VERSION,
+            inspected::flag(self.entry),
+        );
+        write_at(self.current, out, 8);
+        write_at(self.mutation, out, 32);
+        inspected::write(self.entry, out);
+        octets::put_zeros(out, 88, 40);
     }
 }

@@ -1,14 +1,20 @@
--- What the reader of an inner entry is held to: of a flag that is listed and the forty octets in the entry's place, whether they are taken,
--- and the entry. Assumes nothing.
-use Rattle.std.specs.Prelude.{ℕ, Bool, cond, List, eqb}
-use Rattle.octets.specs.Octets.{octets_at, all_zero}
-use Rattle.codec.specs.Codec.{decode_number, decode_value}
+-- What the reader of an inner entry is held to, under a flag: the codec of six numbers that are zero under 0, and else a cookie value's.
+-- Assumes nothing.
+use Rattle.std.specs.Prelude.{ℕ, Bool, cond, List, [], ◌∷◌, take, eqb, Option, None}
+use Rattle.octets.specs.Octets.{all_zero}
+use Rattle.codec.specs.Codec.{test, Codec, ok}
+use Rattle.records.specs.declared.cookie_value.FenceCookieValue.{FenceCookieValue}
 use Rattle.records.specs.CookieValue.{cookie_value_codec}
-use Rattle.inspection.specs.declared.inspected.InspectedEntry.{InspectedEntry}
-use Rattle.inspection.specs.declared.inspected.InspectedEntry.TheVariants.{Absent, Present}
+use Rattle.inspection.specs.Inspected.{part_fields, part_of}
 
-unfoldable pub part_taken : ℕ → List ℕ → Bool
-part_taken flag s = cond (eqb flag 0) (all_zero (octets_at s 0 40)) (eqb (decode_number cookie_value_codec s) 0)
+abbrev pub part_taken : ℕ → List ℕ → Bool
+part_taken flag vs = cond (eqb flag 0) (all_zero (take 6 vs)) (ok cookie_value_codec vs)
 
-unfoldable pub part_read : ℕ → List ℕ → InspectedEntry
-part_read flag s = cond (eqb flag 0) Absent (Present (decode_value cookie_value_codec s))
+abbrev pub part_codec : ℕ → Codec (Option FenceCookieValue)
+part_codec flag = record {
+  layout = cookie_value_codec.layout;
+  tests = test 0 (part_taken flag) ∷ [];
+  of = part_of flag;
+  fields = part_fields;
+  blank = None;
+}

@@ -1,6 +1,6 @@
 -- `is_sound`: a record is sound where its parts are. Assumes nothing.
 use Rattle.inspection.proofs.InspectionLaws.{inspection-sound}
-use Rattle.inspection.proofs.FenceInspection.is_sound.Goals as goal
+use Rattle.inspection.proofs.FenceInspectionRecord.is_sound.Goals as goal
 
 pub returns-then-is_sound-2 : goal.returns-then-is_sound-2
 returns-then-is_sound-2 c =
