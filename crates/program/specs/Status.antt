@@ -3,7 +3,6 @@ use Rattle.std.specs.Prelude.{ℕ, ◌≡◌, Bool, true, false, cond}
 use Rattle.program.specs.declared.Outcome.{Outcome}
 use Rattle.program.specs.declared.Outcome.TheVariants.{Answered, TurnedDown, Failed}
 use Rattle.program.specs.declared.Stopped.{Stopped}
-use Rattle.program.specs.declared.Stopped.TheVariants as Stopped
 
 -- "0 answered in full", "1 the input was turned down", "2 something failed", each as a digit of ASCII
 abbrev pub digit_of : Outcome → ℕ

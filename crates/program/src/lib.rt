@@ -202,14 +202,14 @@ pub fn run<R: Env + Files, F: FnOnce(Streams) -> Result<Outcome, Stopped>>(
 // ---- reading
 
 // A read failed.
-#[derive(Clone, Copy)]
+#[derive(Clone, Copy, Debug, PartialEq, Eq)]
 pub struct ReadFailed<'a> {
     // The part of the space that the reads before it filled.
     pub before: &'a [u8],
 }
 
 // What reading to a limit gave.
-#[derive(Clone, Copy)]
+#[derive(Clone, Copy, Debug, PartialEq, Eq)]
 pub enum Input<'a> {
     // The input ended, and no more than the limit was read.
     Whole(&'a [u8]),
@@ -218,7 +218,7 @@ pub enum Input<'a> {
 }
 
 // Why there is nothing to hand on.
-#[derive(Clone, Copy)]
+#[derive(Clone, Copy, Debug, PartialEq, Eq)]
 pub enum InputError<'a> {
     // A read failed.
     Failed(ReadFailed<'a>),
@@ -244,7 +244,9 @@ pub fn fill<'a, R: Read>(from: &mut R, space: &'a mut [u8]) -> Result<&'a [u8], 
         match from.read(&mut space[at..]) {
             Ok(0) => break,
             Ok(n) => at += n,
-            Err(_) => return Err(ReadFailed { before: &space[..at] }),
+            Err(_) => return Err(ReadFailed {
+                before: &space[..at],
+            }),
         }
     }
     Ok(&space[..at])
