@@ -30,9 +30,10 @@ const BLOCKS: u64 = 1_000_000_000_000;
 // The longest block.
 const BLOCK: usize = 65536;
 
-// Answers are gathered, and written once a longest answer might not fit any more.
+// The answers that are gathered.
 type Answers = Gathered<65536>;
 
+// They are written once a longest answer might not fit any more.
 const FULL: usize = 65024;
 
 const ABOUT: About<'static> = About {
