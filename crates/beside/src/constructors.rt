@@ -13,6 +13,7 @@ use records::entry::FenceEntry;
 use records::key::FenceCookieKey;
 use units::{BootNs, ControlEpoch, DurableFenceToken, RootCgroupId, SocketCookie};
 
+// Puts what a constructor made of a body.
 pub(crate) fn answer(
     constructor: Constructor,
     body: &[u8],

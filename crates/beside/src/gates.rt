@@ -23,6 +23,7 @@ struct Call<'a> {
 type Table = Gathered<164000>;
 
 impl Call<'_> {
+    // Takes a query apart.
     fn of(body: &[u8]) -> Result<Call<'_>, QueryError> {
         let (head, rest) = parts::split_array::<HEAD>(body)?;
         let (config, rest) = parts::split(rest, octets::get_u8(head, 0) as usize)?;
@@ -43,16 +44,20 @@ impl Call<'_> {
         octets::get_u32_le(head, 85) == 0
     }
 
-    fn lay_out(&self, table: &mut Table) {
+    // Puts the filler record n times.
+    fn put_fillers(&self, n: u16, table: &mut Table) {
         let head = self.head;
         let filler = &head[45..85];
-        for _ in 0..octets::get_u16_le(head, 85) {
+        for _ in 0..n {
             table.put(filler);
         }
+    }
+
+    fn lay_out(&self, table: &mut Table) {
+        let head = self.head;
+        self.put_fillers(octets::get_u16_le(head, 85), table);
         table.put(self.own);
-        for _ in 0..octets::get_u16_le(head, 87) {
-            table.put(filler);
-        }
+        self.put_fillers(octets::get_u16_le(head, 87), table);
     }
 
     // The call, with a table.
@@ -75,6 +80,7 @@ impl Call<'_> {
     }
 }
 
+// The call, with the table's own bytes where there are no fillers, else with the table that is laid out.
 pub(crate) fn judge(body: &[u8], reading: &mut [u8]) -> Result<u32, QueryError> {
     let call = Call::of(body)?;
     if call.is_bare() {

@@ -10,6 +10,7 @@ pub(crate) struct Gathered<const N: usize> {
 }
 
 impl<const N: usize> Gathered<N> {
+    // Nothing yet.
     pub(crate) fn new() -> Gathered<N> {
         Gathered {
             space: [0u8; N],
@@ -26,10 +27,12 @@ impl<const N: usize> Gathered<N> {
         self.used = start + n;
     }
 
+    // What has been put.
     pub(crate) fn bytes(&self) -> &[u8] {
         &self.space[..self.used]
     }
 
+    // Begins anew.
     pub(crate) fn clear(&mut self) {
         self.used = 0;
     }

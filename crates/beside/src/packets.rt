@@ -3,6 +3,7 @@
 use crate::parts;
 use crate::query::QueryError;
 
+// The call, on the endpoint and the packet.
 pub(crate) fn classify(body: &[u8], reading: &mut [u8]) -> Result<u32, QueryError> {
     let (endpoint, packet) = parts::split_array::<19>(body)?;
     let address = parts::array::<16>(endpoint, 1);

@@ -57,16 +57,22 @@ fn split_query(block: &[u8]) -> Option<(Query<'_>, &[u8])>
 // What a query asks.
 #[derive(Clone, Copy)]
 pub(crate) enum Kind {
+    // Of `leaves`.
     Refresh,
     Ipv4,
     Ipv6,
     MatchesIpv4,
     MatchesIpv6,
+    // Of `packets`.
     Classify,
+    // Of `codecs`.
     Decode(Record),
     Encode(Record),
+    // Of `constructors`.
     Construct(Constructor),
+    // Of `verdicts`.
     Verdict,
+    // Of `gates`.
     Gate,
 }
 
@@ -94,6 +100,7 @@ pub(crate) enum Constructor {
     Inspection,
 }
 
+// How a current fence token is made.
 #[derive(Clone, Copy)]
 pub(crate) enum OfCurrent {
     Initial,
@@ -102,12 +109,14 @@ pub(crate) enum OfCurrent {
     Registered,
 }
 
+// How a mutation authority is made.
 #[derive(Clone, Copy)]
 pub(crate) enum OfMutation {
     Initial,
     New,
 }
 
+// How an entry is made.
 #[derive(Clone, Copy)]
 pub(crate) enum OfEntry {
     InitialClosed,
@@ -116,6 +125,7 @@ pub(crate) enum OfEntry {
     Reclaiming,
 }
 
+// By the number of the kind.
 impl TryFrom<u8> for Kind {
     type Error = QueryError;
 
@@ -138,10 +148,10 @@ impl TryFrom<u8> for Kind {
     }
 }
 
+// By its place in the list of the records, from 0.
 impl TryFrom<u8> for Record {
     type Error = QueryError;
 
-    // By its place in the list of the records, from 0.
     fn try_from(place: u8) -> Result<Record, QueryError> {
         let record = match place {
             0 => Record::Current,
@@ -157,6 +167,7 @@ impl TryFrom<u8> for Record {
     }
 }
 
+// By the number of the kind.
 impl TryFrom<u8> for Constructor {
     type Error = QueryError;
 

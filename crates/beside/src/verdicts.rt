@@ -48,6 +48,7 @@ fn authority_of(body: &[u8]) -> FenceAuthoritySnapshot {
     )
 }
 
+// Puts the slot and whether the packet must be dropped.
 pub(crate) fn answer(body: &[u8], out: &mut Answers) -> Result<(), QueryError> {
     let body = parts::exactly::<61>(body)?;
     let verdict = verdict::decide_egress(context_of(body), authority_of(body));
