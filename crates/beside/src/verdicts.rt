@@ -1,7 +1,7 @@
 // Query 48: what is known of a packet and of the authority. The answer is the verdict's slot, or ff where it has none, and whether the
 // packet must be dropped.
-ghost use Rattle.std.specs.Prelude.{◌≤◌};
-
+use crate::query::QueryError;
+use crate::{Answers, parts};
 use packet::PacketEndpointDisposition;
 use records::entry::{FenceEntry, FenceEntryState};
 use units::{BootNs, ControlEpoch, DurableFenceToken, SocketCookie};
@@ -48,14 +48,10 @@ fn authority_of(body: &[u8]) -> FenceAuthoritySnapshot {
     )
 }
 
-pub(crate) fn answer_verdict(body: &[u8], out: &mut [u8]) -> usize
-    ensures { result ≤ 512 }
-{
-    if body.len() != 61 {
-        return 0;
-    }
+// Puts the slot and whether the packet must be dropped.
+pub(crate) fn answer(body: &[u8], out: &mut Answers) -> Result<(), QueryError> {
+    let body = parts::exactly::<61>(body)?;
     let verdict = verdict::decide_egress(context_of(body), authority_of(body));
-    octets::put_u8(out, 0, verdict.slot_number());
-    octets::put_u8(out, 1, verdict.must_drop() as u8);
-    2
+    out.put(&[verdict.slot_number(), verdict.must_drop() as u8]);
+    Ok(())
 }

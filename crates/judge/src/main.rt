@@ -5,38 +5,37 @@
 ghost use Rattle.listing.specs.Listing.{whole};
 ghost use Rattle.program.specs.Status.{Fits};
 
-use program::{Outcome, Reading, Streams, Written};
+use program::{About, Input, InputError, Outcome, Stopped, Streams};
 use std::io::Read;
 
 // One byte more than the longest bundle shows that there is more.
 const ENOUGH: usize = listing::MAX_BUNDLE + 1;
+
+const ABOUT: About<'static> = About {
+    name: b"judge",
+    help: b"usage: judge < BUNDLE\n\nPrints a line for each packet of the bundle on standard input: its ordinal, the verdict, the number of IPv6 extension\nheaders passed, and the verdict's counter slot or `-`. The last line is `end` and the number of packets; `bad` and the offset\nof a frame that cannot be read, after the packets before it; or `long` alone, for more than 65,536 bytes.\n\nStatus, as the script threadwicket gives it: 0 for a listing that ends in `end`; 1 for `bad` and `long`; 2 where the input\ncould not be read or the listing not be written, which a line on descriptor 2 says. The program by itself has no status.\n",
+    refusal: b"judge: it takes no file's name and no other argument: a bundle comes on standard input (judge --help says more)\n",
+};
 
 fn main(rt: HostRuntime) {
     let to = Streams {
         out: rt.stdout(),
         err: rt.stderr(),
     };
-    if program::begins(
-        &rt,
-        to,
-        b"judge",
-        b"usage: judge < BUNDLE\n\nPrints a line for each packet of the bundle on standard input: its ordinal, the verdict, the number of IPv6 extension\nheaders passed, and the verdict's counter slot or `-`. The last line is `end` and the number of packets; `bad` and the offset\nof a frame that cannot be read, after the packets before it; or `long` alone, for more than 65,536 bytes.\n\nStatus, as the script threadwicket gives it: 0 for a listing that ends in `end`; 1 for `bad` and `long`; 2 where the input\ncould not be read or the listing not be written, which a line on descriptor 2 says. The program by itself has no status.\n",
-        b"judge: it takes no file's name and no other argument: a bundle comes on standard input (judge --help says more)\n",
-    ) {
-        program::end(&rt, judge(&mut rt.stdin(), to));
-    }
+    program::run(&rt, to, ABOUT, |to| judge(&mut rt.stdin(), to));
 }
 
 // Reads the bundle and lists it.
-fn judge<R: Read>(from: &mut R, to: Streams) -> Outcome {
+fn judge<R: Read>(from: &mut R, to: Streams) -> Result<Outcome, Stopped> {
     let mut space = [0u8; ENOUGH];
-    let input = program::read_input(from, listing::MAX_BUNDLE, &mut space);
-    let n = input.length;
-    let reading = input.reading;
-    match reading {
-        Reading::Failed => program::complain(to, b"judge: the input could not be read\n"),
-        Reading::Small => program::complain(to, b"judge: there is no room for a longest bundle\n"),
-        Reading::Whole | Reading::Longer => list(&space[0..n], to),
+    match program::read_input(from, listing::MAX_BUNDLE, &mut space) {
+        Ok(Input::Whole(bundle) | Input::Longer(bundle)) => Ok(list(bundle, to)),
+        Err(InputError::Failed(_)) => {
+            Err(program::complain(to, b"judge: the input could not be read\n"))
+        }
+        Err(InputError::Small) => {
+            Err(program::complain(to, b"judge: there is no room for a longest bundle\n"))
+        }
     }
 }
 
@@ -47,13 +46,12 @@ fn list(input: &[u8], to: Streams) -> Outcome
     let mut out = [0u8; listing::MAX_LISTING];
     let listed = listing::list(input, &mut out);
     let length = listed.length;
-    let written = program::answer(
+    match program::answer(
         to,
-        &out[0..length],
+        &out[..length],
         b"judge: the listing could not be written\n",
-    );
-    match written {
-        Written::Failed => Outcome::Failed,
-        Written::All | Written::Gone => Outcome::of_whole(listed.whole),
+    ) {
+        Err(Stopped::Failed) => Outcome::Failed,
+        Ok(()) | Err(Stopped::Gone) => Outcome::of_whole(listed.whole),
     }
 }

@@ -1,12 +1,11 @@
--- Laws of the definitions: the walk, a step at a time, and a disposition from its number. Assumes nothing.
+-- Laws of the definitions: the walk, a step at a time; and an IPv6 address, as two numbers. Assumes nothing.
 use Rattle.octets.specs.Words.{ℕ, zero, suc, ◌+◌, ◌-◌, ◌<◌, ◌≤◌, ◌≡◌, ◌&&◌, List, eqb}
-use Rattle.octets.proofs.Tools.{refl, sym, arith}
+use Rattle.octets.proofs.Tools.{sym, arith}
 use Rattle.octets.specs.Octets.{Bytes, octets_at, le, same_octets}
 use Rattle.octets.proofs.SameLaws.{same-halves}
 use Rattle.octets.proofs.Choices.{cond-all}
 use native.Mathlib.Numerals.{sub-one}
-use Rattle.packet.specs.Answers.{disposition_number, disposition_numbered}
-use Rattle.packet.specs.Reading.{Disposition, protected, unrelated, indeterminate, Outcome, settled, onward, follow, sort_of, by_class, counted_of, fragment_of, step_of, stop, passed, walk_of}
+use Rattle.packet.specs.Reading.{Disposition, indeterminate, Outcome, settled, onward, follow, sort_of, by_class, counted_of, fragment_of, step_of, stop, passed, walk_of}
 
 by_class-all : {A : Type 0} (P : A → Type 0) (k : ℕ) {p u o w f x : A} → P p → P u → P o → P w → P f → P x → P (by_class k p u o w f x)
 by_class-all P k pp pu po pw pf px =
@@ -38,12 +37,13 @@ module _ (s : List ℕ) (port e : ℕ) where
       go (settled c' d) h = omega arith
       go (onward n' c') h = omega (arith, h n' c')
 
-  -- where a step settles, the walk is over; where it goes on, there was an allowance, and the walk is the rest's with one header more
+  -- where a step settles, the walk is over
   pub walk_over : (a n c : ℕ) (d : Disposition) → settled c d ≡ step_of s port e a n c → walk_of s port e a n c ≡ stop c d
   unfolding walk_of
   walk_over zero n c d p = rw (← p)
   walk_over (suc a) n c d p = rw (← p)
 
+  -- where it goes on, there was an allowance, and the walk is the rest's with one header more
   pub allowed : (a n c n' c' : ℕ) → onward n' c' ≡ step_of s port e a n c → 0 < a
   allowed zero n c n' c' p = absurd (none-stops n c n' c' (sym p))
   allowed (suc a) n c n' c' p = omega arith
@@ -57,9 +57,3 @@ module _ (s : List ℕ) (port e : ℕ) where
 pub same_sixteen : (s t : List ℕ) (i j : ℕ) → Bytes s → Bytes t →
     same_octets (octets_at s i 16) (octets_at t j 16) ≡ (eqb (le (octets_at s i 8)) (le (octets_at t j 8)) && eqb (le (octets_at s (i + 8) 8)) (le (octets_at t (j + 8) 8)))
 same_sixteen s t i j a b = same-halves s t i j 8 8 a b
-
--- a disposition from its number
-pub number-back : (d : Disposition) → disposition_numbered (disposition_number d) ≡ d
-number-back protected = refl
-number-back unrelated = refl
-number-back indeterminate = refl

@@ -6,7 +6,6 @@ use Rattle.octets.proofs.UniqueLaws.{as-told, as-numbered}
 use Rattle.octets.specs.Determined.{Determined}
 use Rattle.packet.specs.Reading.{Disposition, protected, unrelated, indeterminate}
 use Rattle.packet.specs.Answers.{disposition_of, disposition_from, disposition_number, disposition_numbered, answer_of}
-use Rattle.packet.proofs.Laws.{number-back}
 use Rattle.packet.specs.declared.PacketEndpointDisposition.{PacketEndpointDisposition}
 use Rattle.packet.specs.declared.PacketEndpointDisposition.TheVariants.{Protected, Unrelated, Indeterminate}
 use Rattle.packet.specs.declared.PacketReading.{PacketReading}
@@ -24,6 +23,12 @@ disposition-forth indeterminate = refl
 
 pub disposition-injective : (d e : PacketEndpointDisposition) → disposition_of d ≡ disposition_of e → d ≡ e
 disposition-injective d e h = sym (disposition-back d) ∙ ap disposition_from h ∙ disposition-back e
+
+-- a disposition from its number
+pub number-back : (d : Disposition) → disposition_numbered (disposition_number d) ≡ d
+number-back protected = refl
+number-back unrelated = refl
+number-back indeterminate = refl
 
 pub number-injective : (d e : Disposition) → disposition_number d ≡ disposition_number e → d ≡ e
 number-injective d e h = sym (number-back d) ∙ ap disposition_numbered h ∙ number-back e

@@ -28,3 +28,6 @@ of-whole-determined κs a x y u v = as-told
 
 pub complain-determined : Determined the.complain.Kinds.ps the.complain.Kinds.r the.complain.Reads.Learnt
 complain-determined κs a x y u v = as-told
+
+pub outcome-of-stopped-determined : Determined the.OutcomeFromStopped.from.Kinds.ps the.OutcomeFromStopped.from.Kinds.r the.OutcomeFromStopped.from.Reads.Learnt
+outcome-of-stopped-determined κs a x y u v = as-told

@@ -1,12 +1,13 @@
--- What is promised of reading to a limit into a space of so many bytes, where n bytes were read: those that are handed on keep to the limit,
--- and nothing is handed on where the space has no room for the one byte more that shows that there is more. What is read no contract can
--- say. Assumes nothing.
-use Rattle.std.specs.Prelude.{ℕ, ◌+◌, ◌<◌, ◌≤◌, ◌≡◌}
-use Rattle.program.specs.declared.Reading.{Reading}
-use Rattle.program.specs.declared.Reading.TheVariants.{Whole, Longer, Failed, Small}
+-- What is promised of reading to a limit into a space of so many bytes: those that are handed on keep to the limit, and nothing is handed on
+-- where the space has no room for the one byte more that shows that there is more. What is read no contract can say. Assumes nothing.
+use Rattle.std.specs.Prelude.{ℕ, ◌+◌, ◌<◌, ◌≤◌, ◌≡◌, length, Result, Ok, Err}
+use Rattle.program.specs.declared.Input.{Input}
+use Rattle.program.specs.declared.Input.TheVariants.{Whole, Longer}
+use Rattle.program.specs.declared.InputError.{InputError}
+use Rattle.program.specs.declared.InputError.TheVariants.{Failed, Small}
 
-abbrev pub Told : ℕ → ℕ → ℕ → Reading → Type 0
-Told limit room n Whole = (n ≤ limit) × (limit < room)
-Told limit room n Longer = (n ≡ limit + 1) × (limit < room)
-Told limit room n Failed = limit < room
-Told limit room n Small = (n ≡ 0) × (room ≤ limit)
+abbrev pub Told : ℕ → ℕ → Result Input InputError → Type 0
+Told limit room (Ok (Whole bytes)) = (length bytes.now ≤ limit) × (limit < room)
+Told limit room (Ok (Longer bytes)) = (length bytes.now ≡ limit + 1) × (limit < room)
+Told limit room (Err (Failed failed)) = (length failed.before.now ≤ limit + 1) × (limit < room)
+Told limit room (Err Small) = room ≤ limit

@@ -3,9 +3,9 @@
 // bytes lie and how many there are, and which status an outcome is.
 #![tactic(auto)]
 
-ghost use Rattle.std.specs.Prelude.{◌≡◌, ◌≤◌, length};
+ghost use Rattle.std.specs.Prelude.{◌≡◌, ◌≤◌, length, IfOk, IfErr};
 ghost use Rattle.program.specs.Reading.{Told};
-ghost use Rattle.program.specs.Status.{digit_of, failed, of_whole};
+ghost use Rattle.program.specs.Status.{digit_of, failed, of_whole, outcome_of};
 
 use std::env::{Env, FillError};
 use std::fs::OpenOptions;
@@ -23,8 +23,19 @@ pub struct Streams {
 
 // ---- arguments and status
 
-// What a program's arguments ask of it.
+// What a program says of itself.
 #[derive(Clone, Copy)]
+pub struct About<'a> {
+    // Its name.
+    pub name: &'a [u8],
+    // What `--help` shows.
+    pub help: &'a [u8],
+    // The line that refuses arguments.
+    pub refusal: &'a [u8],
+}
+
+// What a program's arguments ask of it.
+#[derive(Clone, Copy, Debug, PartialEq, Eq)]
 enum Request {
     // There are none: its work.
     Work,
@@ -37,7 +48,7 @@ enum Request {
 }
 
 // How a program ended.
-#[derive(Clone, Copy)]
+#[derive(Clone, Copy, Debug, PartialEq, Eq)]
 pub enum Outcome {
     // It answered in full.
     Answered,
@@ -71,15 +82,34 @@ impl Outcome {
     }
 }
 
+// Why a program stops before its work is done.
+#[derive(Clone, Copy, Debug, PartialEq, Eq)]
+pub enum Stopped {
+    // Whoever read the answers has gone: that is no error, and nothing is said of it.
+    Gone,
+    // Its input could not be read or understood, or an answer could not be written: a line on descriptor 2 says so.
+    Failed,
+}
+
+impl From<Stopped> for Outcome {
+    ghost from_gives = { λ stopped outcome. outcome ≡ outcome_of stopped };
+
+    fn from(stopped: Stopped) -> Outcome {
+        match stopped {
+            Stopped::Gone => Outcome::Answered,
+            Stopped::Failed => Outcome::Failed,
+        }
+    }
+}
+
 // Where the status goes, if the first argument is `--status-fd=3`: descriptor 3, by the name that Linux has for it.
 const STATUS: &str = "/proc/self/fd/3";
 
 // Whether argument i is this text.
 fn argument_is<R: Env>(rt: &R, i: usize, text: &[u8]) -> bool {
     let mut space = [0u8; 32];
-    let given: &mut [u8] = &mut space;
-    match rt.arg(i, given) {
-        Ok(n) => n == text.len() && octets::same(given, 0, text, 0, n),
+    match rt.arg(i, &mut space) {
+        Ok(n) => &space[..n] == text,
         Err(_) => false,
     }
 }
@@ -142,7 +172,7 @@ fn open_status<R: Files>(rt: &R) -> io::Result<R::File> {
 }
 
 // Tells the status where it is asked for: its digit, on descriptor 3. Where that is not open, nothing is told.
-pub fn end<R: Env + Files>(rt: &R, outcome: Outcome) {
+fn tell<R: Env + Files>(rt: &R, outcome: Outcome) {
     if is_status_asked(rt) {
         if let Ok(mut file) = open_status(rt) {
             let _ = file.write_all(&[outcome.digit()]);
@@ -150,136 +180,94 @@ pub fn end<R: Env + Files>(rt: &R, outcome: Outcome) {
     }
 }
 
-// Whether a program that takes no arguments is to do its work. Where it was asked for something else that is done here, and its status told:
-// the text of `--help` or the version is shown, and any other arguments are refused in one line.
-pub fn begins<R: Env + Files>(
+// Does the work of a program that takes no arguments, and tells its status. Where it was asked for something else that is done in place of
+// the work: the text of `--help` or the version is shown, and any other arguments are refused in one line.
+pub fn run<R: Env + Files, F: FnOnce(Streams) -> Result<Outcome, Stopped>>(
     rt: &R,
     to: Streams,
-    name: &[u8],
-    help: &[u8],
-    refusal: &[u8],
-) -> bool {
-    let request = asked(rt);
-    let outcome = match request {
-        Request::Work => {
-            return true;
-        }
-        Request::Help => show(to, name, help),
-        Request::Version => show_version(to, name),
-        Request::Other => complain(to, refusal),
+    about: About,
+    work: F,
+)
+    requires { F.pre work to }
+{
+    let ended = match asked(rt) {
+        Request::Work => work(to),
+        Request::Help => show(to, about.name, about.help),
+        Request::Version => show_version(to, about.name),
+        Request::Other => Err(complain(to, about.refusal)),
     };
-    end(rt, outcome);
-    false
+    tell(rt, ended.unwrap_or_else(|stopped| stopped.into()));
 }
 
 // ---- reading
 
-// How many bytes stand at the start of a space, and whether a read failed. Where none did and the space is not full, the input ended.
-#[derive(Clone, Copy)]
-pub struct Filled {
-    pub length: usize,
-    pub failed: bool,
+// A read failed.
+#[derive(Clone, Copy, Debug, PartialEq, Eq)]
+pub struct ReadFailed<'a> {
+    // The part of the space that the reads before it filled.
+    pub before: &'a [u8],
 }
 
-// What became of reading to a limit.
-#[derive(Clone, Copy)]
-pub enum Reading {
+// What reading to a limit gave.
+#[derive(Clone, Copy, Debug, PartialEq, Eq)]
+pub enum Input<'a> {
     // The input ended, and no more than the limit was read.
-    Whole,
+    Whole(&'a [u8]),
     // There is more: one byte more than the limit was read.
-    Longer,
+    Longer(&'a [u8]),
+}
+
+// Why there is nothing to hand on.
+#[derive(Clone, Copy, Debug, PartialEq, Eq)]
+pub enum InputError<'a> {
     // A read failed.
-    Failed,
+    Failed(ReadFailed<'a>),
     // The space is no longer than the limit, so that nobody could tell whether there is more: nothing was read.
     Small,
 }
 
-// What reading to a limit gave: how many bytes stand at the start of the space, and what became of it.
-#[derive(Clone, Copy)]
-pub struct Input {
-    pub length: usize,
-    pub reading: Reading,
-}
-
 // One read: as many bytes as there are now, none where the input ended.
-pub fn read_some<R: Read>(from: &mut R, space: &mut [u8]) -> Filled
-    ensures { result.length ≤ length space.new }
+pub fn read_some<'a, R: Read>(from: &mut R, space: &'a mut [u8]) -> io::Result<&'a [u8]>
+    ensures { IfOk result (λ some. length some.now ≤ length space.old) }
 {
-    match from.read(space) {
-        Ok(length) => Filled {
-            length,
-            failed: false,
-        },
-        Err(_) => Filled {
-            length: 0,
-            failed: true,
-        },
-    }
+    let n = from.read(space)?;
+    Ok(&space[..n])
 }
 
 // Reads to the start of `space` until it is full, the input ends or a read fails.
-pub fn fill<R: Read>(from: &mut R, space: &mut [u8]) -> Filled
-    ensures { result.length ≤ length space.new }
+pub fn fill<'a, R: Read>(from: &mut R, space: &'a mut [u8]) -> Result<&'a [u8], ReadFailed<'a>>
+    ensures filled { IfOk result (λ some. length some.now ≤ length space.old) }
+    ensures failed { IfErr result (λ error. length error.before.now ≤ length space.old) }
 {
     let mut at = 0;
     while at < space.len() {
-        let some = read_some(from, &mut space[at..]);
-        if some.failed {
-            return Filled {
-                length: at,
-                failed: true,
-            };
+        match from.read(&mut space[at..]) {
+            Ok(0) => break,
+            Ok(n) => at += n,
+            Err(_) => return Err(ReadFailed {
+                before: &space[..at],
+            }),
         }
-        if some.length == 0 {
-            break;
-        }
-        at += some.length;
     }
-    Filled {
-        length: at,
-        failed: false,
-    }
+    Ok(&space[..at])
 }
 
 // Reads at most `limit` bytes to the start of `space`, and one more to see whether there is more.
-pub fn read_input<R: Read>(from: &mut R, limit: usize, space: &mut [u8]) -> Input
-    ensures length_in_bounds { result.length ≤ length space.new }
-    ensures told { Told limit (length space.new) result.length result.reading }
+pub fn read_input<'a, R: Read>(
+    from: &mut R,
+    limit: usize,
+    space: &'a mut [u8],
+) -> Result<Input<'a>, InputError<'a>>
+    ensures { Told limit (length space.old) result }
 {
     if space.len() <= limit {
-        return Input {
-            length: 0,
-            reading: Reading::Small,
-        };
+        return Err(InputError::Small);
     }
     let end = limit + 1;
-    let filled = fill(from, &mut space[0..end]);
-    let length = filled.length;
-    if filled.failed {
-        return Input {
-            length,
-            reading: Reading::Failed,
-        };
-    }
-    if limit < length {
-        return Input {
-            length,
-            reading: Reading::Longer,
-        };
-    }
-    Input {
-        length,
-        reading: Reading::Whole,
-    }
-}
-
-// What could not be opened, as a reader: each read of it fails.
-#[derive(Clone, Copy)]
-struct Unopened;
-
-impl Read for Unopened {
-    fn read(&mut self, _buf: &mut [u8]) -> io::Result<usize> {
-        Err(io::Error::from(ErrorKind::NotFound))
+    match fill(from, &mut space[..end]) {
+        Err(failed) => Err(InputError::Failed(failed)),
+        Ok(bytes) if limit < bytes.len() => Ok(Input::Longer(bytes)),
+        Ok(bytes) => Ok(Input::Whole(bytes)),
     }
 }
 
@@ -292,72 +280,61 @@ fn open_named<R: Files>(rt: &R, path: &[u8]) -> io::Result<R::File> {
 }
 
 // The same of a file by its name. A read of one that cannot be opened fails, and a name that is no UTF-8 cannot be opened.
-pub fn read_named<R: Files>(rt: &R, path: &[u8], limit: usize, space: &mut [u8]) -> Input
-    ensures length_in_bounds { result.length ≤ length space.new }
-    ensures told { Told limit (length space.new) result.length result.reading }
+pub fn read_named<'a, R: Files>(
+    rt: &R,
+    path: &[u8],
+    limit: usize,
+    space: &'a mut [u8],
+) -> Result<Input<'a>, InputError<'a>>
+    ensures { Told limit (length space.old) result }
 {
     match open_named(rt, path) {
         Ok(mut file) => read_input(&mut file, limit, space),
-        Err(_) => read_input(&mut Unopened, limit, space),
+        Err(_) if limit < space.len() => Err(InputError::Failed(ReadFailed { before: &[] })),
+        Err(_) => Err(InputError::Small),
     }
 }
 
 // ---- writing
 
-// What became of an answer.
-#[derive(Clone, Copy)]
-pub enum Written {
-    All,
-    // Whoever read the answers has gone: that is no error, and nothing is said of it.
-    Gone,
-    // It could not be written, and a line on descriptor 2 says so.
-    Failed,
-}
-
 // Writes a line that says what is wrong to descriptor 2.
-pub fn complain(to: Streams, line: &[u8]) -> Outcome
+pub fn complain(to: Streams, line: &[u8]) -> Stopped
     ensures { result ≡ failed }
 {
     let _ = Print::write_all(&to.err, line);
-    Outcome::Failed
+    Stopped::Failed
 }
 
 // Writes all of a text to standard output, and says nothing where that fails.
-fn write(to: Streams, text: &[u8]) -> Written {
-    match Print::write_all(&to.out, text) {
-        Ok(()) => Written::All,
-        Err(e) => {
-            if e.kind() == ErrorKind::BrokenPipe {
-                Written::Gone
-            } else {
-                Written::Failed
-            }
-        }
-    }
+fn write(to: Streams, text: &[u8]) -> Result<(), Stopped> {
+    Print::write_all(&to.out, text).map_err(|error| match error.kind() {
+        ErrorKind::BrokenPipe => Stopped::Gone,
+        _ => Stopped::Failed,
+    })
 }
 
 // Writes all of an answer to standard output, or else the complaint to descriptor 2.
-pub fn answer(to: Streams, text: &[u8], complaint: &[u8]) -> Written {
+pub fn answer(to: Streams, text: &[u8], complaint: &[u8]) -> Result<(), Stopped> {
     let written = write(to, text);
-    if let Written::Failed = written {
+    if let Err(Stopped::Failed) = written {
         complain(to, complaint);
     }
     written
 }
 
 // Writes a text that was asked for, or else a complaint that begins with the program's name.
-fn show(to: Streams, name: &[u8], text: &[u8]) -> Outcome {
+fn show(to: Streams, name: &[u8], text: &[u8]) -> Result<Outcome, Stopped> {
     match write(to, text) {
-        Written::All | Written::Gone => Outcome::Answered,
-        Written::Failed => {
+        Ok(()) | Err(Stopped::Gone) => Ok(Outcome::Answered),
+        Err(Stopped::Failed) => {
             complain(to, name);
-            complain(to, b": the text could not be written\n")
+            Err(complain(to, b": the text could not be written\n"))
         }
     }
 }
 
 // Writes a program's name and version; where the name cannot be written, the rest cannot either, which says so.
-fn show_version(to: Streams, name: &[u8]) -> Outcome {
-    write(to, name);
+fn show_version(to: Streams, name: &[u8]) -> Result<Outcome, Stopped> {
+    let _ = write(to, name);
     show(to, name, b" (threadwicket) 1.0\n")
 }

@@ -12,8 +12,8 @@ fits : (b : Bool) → Fits b (of_whole b)
 fits true = refl
 fits false = refl
 
-pub returns-in-All : goal.returns-in-All
-returns-in-All c =
+pub returns-in-Ok : goal.returns-in-Ok
+returns-in-Ok c =
     let s = c.args.input.now in
     let told = ap (λ r. r.whole) (c.list-listed.ensures.answer ∙ room-suffices s _ (search rules)) in
     subst (Fits (whole s)) (ap of_whole (sym told) ∙ sym c.of_whole.ensures) (fits (whole s))
