@@ -30,7 +30,8 @@ enum Frame {
 }
 
 // Where reading stands: the offset, how many bytes of the table are gathered, and the places in the input of the bodies in force. A body
-// that has not come yet has the end of the input for its place.
+// that has not come yet has the end of the input for its place. The table's bytes stand beside it: they are the caller's, of any length,
+// and `next_packet` and `judge` promise what they do with those.
 #[derive(Clone, Copy)]
 pub struct Cursor {
     pub at: usize,
@@ -51,6 +52,7 @@ pub enum Next {
     Bad(Cursor),
 }
 
+// The frame of a kind and a body length.
 #[tactic(auto, unfolding(crate::specs::Frames::frame_of, crate::specs::Frames::exactly))]
 fn frame_of(kind: u16, len: usize) -> Frame
     ensures { frame_is result ≡ frame_of kind len }
@@ -65,7 +67,7 @@ fn frame_of(kind: u16, len: usize) -> Frame
     }
 }
 
-// A frame that is found lies inside.
+// The frame at an offset. It lies inside.
 fn frame_at(input: &[u8], at: usize) -> Frame
     ensures found { frame_is result ≡ frame_at input.now at }
     ensures inside { size (frame_is result) ≤ length input.now - at }
