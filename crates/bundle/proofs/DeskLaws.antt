@@ -13,30 +13,22 @@ use Rattle.bundle.specs.Feed.{skip, onward, map_feed, Next, called, over}
 use Rattle.bundle.specs.Frames.{body_at, past, frame_at, initial, call_of, step_of, frame_step, left_at, feed_at, bundle_of}
 use Rattle.bundle.specs.Cursor.{held, state_of, start_of, Desk, desk, place_of, desk_step, read_step, desk_left, desk_feed, next_at}
 use Rattle.bundle.specs.Promises.{Followed}
-use Rattle.bundle.specs.Inner.Steps.{frame_is}
+use Rattle.bundle.specs.Inner.Steps.{frame_is, size}
 use Rattle.bundle.specs.Kinds.{Frame}
 use Rattle.bundle.specs.Kinds as frame
 use Rattle.bundle.specs.declared.frames.Frame.{Frame as Found}
 use Rattle.bundle.specs.declared.frames.Frame.TheVariants as find
 use Rattle.bundle.specs.declared.frames.Cursor.{Cursor}
 use Rattle.bundle.proofs.FeedLaws.{next-step, read_keeps, map_step, Leads, run-maps}
-use Rattle.bundle.proofs.FrameLaws.{size, left-size, desks-fall, held_in, held_out}
+use Rattle.bundle.proofs.FrameLaws.{left-size, desks-fall, held_in, held_out}
 
 -- ---- the next packet
 
--- y is the frame that is found at an offset: it lies in the bundle
-module _ (s : List ℕ) (at : ℕ) {x y : Found} (e : frame_is x ≡ frame_at s at) (h : x ≡ y) where
-  stands : frame_at s at ≡ frame_is y
-  stands = sym e ∙ ap frame_is h
-
-  pub there : size (frame_is y) ≤ length s - at
-  there = rw stands at (left-size s at)
-
--- and what comes next is what it says, or comes next after it
+-- y is the frame that is found at an offset: what comes next is what it says, or comes next after it
 pub next-at : (s : List ℕ) (c : Cursor) {x y : Found} → frame_is x ≡ frame_at s c.at → x ≡ y → (t : List ℕ) →
     next_at s (desk c t) ≡ onward over (λ k b n. called k b) (next_at s) (desk c t) (desk_step s c t (frame_is y))
 unfolding next_at
-next-at s c e h t = next-step (read_step s) (desk_left s) (desks-fall s) (desk c t) ∙ rw (stands s c.at e h)
+next-at s c e h t = next-step (read_step s) (desk_left s) (desks-fall s) (desk c t) ∙ rw (sym e ∙ ap frame_is h)
 
 -- a cookie value that is written after those gathered
 pub next-value : (s : List ℕ) (c : Cursor) (t : List ℕ) {x : Found} {t' part : List ℕ} {r : ℕ} → frame_is x ≡ frame_at s c.at → x ≡ find.CookieValue →
@@ -66,7 +58,7 @@ Inside s (over e d) = Unit {0}
 
 inside_on : (s : List ℕ) (go : Desk → Next Desk) → ((d : Desk) → Inside s (go d)) → (d : Desk) (x : Frame) → size x ≤ length s - d.cursor.at →
     Inside s (onward over (λ k b n. called k b) go d (desk_step s d.cursor d.table x))
-unfolding onward desk_step size call_of
+unfolding onward desk_step call_of
 inside_on s go h d frame.Config l = h _
 inside_on s go h d frame.Current l = h _
 inside_on s go h d frame.CookieValue l = h _
@@ -96,7 +88,7 @@ grown t b g e h l =
 
 along-at : (s : List ℕ) (c : Cursor) (t : List ℕ) (x : Frame) → size x ≤ length s - c.at → Standing s (desk c t) →
     (map_step (place_of s) (desk_step s c t x) ≡ step_of s c.at (state_of s c t) x) × Leads (Standing s) (desk_step s c t x)
-unfolding step_of desk_step size
+unfolding step_of desk_step
 along-at s c t frame.Config h k = (
   (λ j. skip (record {
     at = past c.at 40;

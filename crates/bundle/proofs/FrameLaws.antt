@@ -13,28 +13,19 @@ use Rattle.bundle.specs.Feed.{Step, stop, skip, emit, onward, no_call, call_then
 use Rattle.bundle.specs.Frames.{length_at, kind_at, past, exactly, frame_of, frame_at, State, initial, Place, socket_of, call_of, step_of, frame_step, left_at, feed_at}
 use Rattle.bundle.specs.Cursor.{held, desk_step, read_step, desk_left}
 use Rattle.bundle.specs.declared.frames.Cursor.{Cursor}
+pub use Rattle.bundle.specs.Inner.Steps.{size}
 use Rattle.bundle.specs.Kinds.{Frame}
 use Rattle.bundle.specs.Kinds as frame
 use Rattle.bundle.proofs.FeedLaws.{run_step}
 
 -- ---- a whole frame lies in the bundle
 
--- how many bytes a frame takes
-unfoldable pub size : Frame → ℕ
-size frame.Config = 46
-size frame.Current = 30
-size frame.CookieValue = 46
-size frame.Call = 49
-size (frame.Packet n) = 6 + n
-size frame.End = 0
-size frame.Bad = 0
-
 exact-size : (n len : ℕ) (f : Frame) → size f ≡ 6 + n → size (exactly n len f) ≤ 6 + len
-unfolding exactly size
+unfolding exactly
 exact-size n len f h = pick (λ x. size x ≤ 6 + len) (eqb len n) (λ e. let q : len ≡ n = eqb-true len n e in omega arith) (λ e. omega arith)
 
-of_size : (kind len : ℕ) → size (frame_of kind len) ≤ 6 + len
-unfolding frame_of size
+pub of_size : (kind len : ℕ) → size (frame_of kind len) ≤ 6 + len
+unfolding frame_of
 of_size kind len =
     let P : Frame → Type 0 = λ x. size x ≤ 6 + len in
     pick P (eqb kind 1) (λ e. exact-size 40 len frame.Config refl) (λ e.
@@ -51,7 +42,7 @@ nothing_left s at h = rw (le-leb (length s) at h)
 
 -- a frame takes no more than is left, wherever it stands
 pub left-size : (s : List ℕ) (at : ℕ) → size (frame_at s at) ≤ length s - at
-unfolding frame_at size
+unfolding frame_at
 left-size s at =
     let P : Frame → Type 0 = λ x. size x ≤ length s - at in
     pick P (leb (length s) at) (λ e. omega arith) (λ e.
@@ -76,7 +67,7 @@ takes-less left m (emit c a) h = omega arith
 -- by what a frame takes, for the bundle's reader and for the cursor's
 takes : (s : List ℕ) (c : Cursor) (t : List ℕ) (st : State) (x : Frame) → size x ≤ length s - c.at →
     Takes (left_at s) (length s - c.at) (step_of s c.at st x) × Takes (desk_left s) (length s - c.at) (desk_step s c t x)
-unfolding step_of desk_step size
+unfolding step_of desk_step
 takes s c t st frame.Config h = (omega arith, omega arith)
 takes s c t st frame.Current h = (omega arith, omega arith)
 takes s c t st frame.CookieValue h = (omega arith, omega arith)

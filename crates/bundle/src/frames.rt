@@ -1,8 +1,8 @@
 // The frames of a bundle: what stands at an offset, what is in force there, and the next packet.
-ghost use Rattle.std.specs.Prelude.{◌≡◌};
-ghost use Rattle.bundle.specs.Frames.{exactly, frame_of, frame_at};
+ghost use Rattle.std.specs.Prelude.{◌≡◌, ◌≤◌, ◌-◌, length};
+ghost use Rattle.bundle.specs.Frames.{frame_of, frame_at};
 ghost use Rattle.bundle.specs.Cursor.{start_of, next_at, next_is};
-ghost use Rattle.bundle.specs.Inner.Steps.{frame_is};
+ghost use Rattle.bundle.specs.Inner.Steps.{frame_is, size};
 
 use authority::current::CurrentFenceToken;
 use config::FenceConfig;
@@ -30,7 +30,8 @@ enum Frame {
 }
 
 // Where reading stands: the offset, how many bytes of the table are gathered, and the places in the input of the bodies in force. A body
-// that has not come yet has the end of the input for its place.
+// that has not come yet has the end of the input for its place. The table's bytes stand beside it: they are the caller's, of any length,
+// and `next_packet` and `judge` promise what they do with those.
 #[derive(Clone, Copy)]
 pub struct Cursor {
     pub at: usize,
@@ -51,27 +52,25 @@ pub enum Next {
     Bad(Cursor),
 }
 
-fn of_length(n: usize, len: usize, frame: Frame) -> Frame
-    ensures { frame_is result ≡ exactly n len (frame_is frame) }
-{
-    if len == n { frame } else { Frame::Bad }
-}
-
+// The frame of a kind and a body length.
+#[tactic(auto, unfolding(crate::specs::Frames::frame_of, crate::specs::Frames::exactly))]
 fn frame_of(kind: u16, len: usize) -> Frame
     ensures { frame_is result ≡ frame_of kind len }
 {
-    match kind {
-        1 => of_length(FenceConfig::LEN, len, Frame::Config),
-        2 => of_length(CurrentFenceToken::LEN, len, Frame::Current),
-        3 => of_length(FenceCookieValue::LEN, len, Frame::CookieValue),
-        4 => of_length(CALL, len, Frame::Call),
-        5 => Frame::Packet(len),
+    match (kind, len) {
+        (1, FenceConfig::LEN) => Frame::Config,
+        (2, CurrentFenceToken::LEN) => Frame::Current,
+        (3, FenceCookieValue::LEN) => Frame::CookieValue,
+        (4, CALL) => Frame::Call,
+        (5, _) => Frame::Packet(len),
         _ => Frame::Bad,
     }
 }
 
+// The frame at an offset. It lies inside.
 fn frame_at(input: &[u8], at: usize) -> Frame
-    ensures { frame_is result ≡ frame_at input.now at }
+    ensures found { frame_is result ≡ frame_at input.now at }
+    ensures inside { size (frame_is result) ≤ length input.now - at }
 {
     if input.len() <= at {
         return Frame::End;

@@ -44,7 +44,7 @@ fn list(input: &[u8], to: Streams) -> Outcome
     ensures { Fits (whole input.now) result }
 {
     let mut out = [0u8; listing::MAX_LISTING];
-    let listed = listing::list(input, &mut out);
+    let listed = listing::list(input, &mut out).unwrap();
     let length = listed.length;
     match program::answer(
         to,

@@ -55,7 +55,7 @@ module _ (s t : List ℕ) where
           rw (lt-leb (length (s ++ t)) at more, n, k, le-ltb (length (s ++ t)) (past at (length_at s at)) room)
 
   same_step : (at : ℕ) (st : State) (x : Frame) → Whole x → size x ≤ length s - at → step_of (s ++ t) at st x ≡ step_of s at st x
-  unfolding step_of size
+  unfolding step_of
   same_step at st frame.Config w h = rw (octets-left s t (at + 6) 40 (omega arith))
   same_step at st frame.Current w h = rw (octets-left s t (at + 6) 24 (omega arith))
   same_step at st frame.CookieValue w h = rw (octets-left s t (at + 6) 40 (omega arith))

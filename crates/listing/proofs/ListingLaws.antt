@@ -1,9 +1,10 @@
 -- A listing that is under way. Of the lines of a bundle, those of the feed at the cursor are owed: whoever writes them where the others end
 -- has written all. A packet's line pays one, and the last line the rest. Whatever a sheet prints of a call. Assumes nothing.
 use Rattle.octets.specs.Words.{ℕ, ◌+◌, ◌-◌, ◌<◌, ◌≤◌, ◌≡◌, Bool, true, false, List, length, leb}
-use Rattle.octets.proofs.Tools.{refl, sym, ap, ◌∙◌, arith, leb-true}
+use Rattle.octets.proofs.Tools.{refl, sym, ap, ◌∙◌, arith, leb-true, leb-false, le-leb, lt-leb}
 use mathlib.Core.Path.{subst}
 use native.Mathlib.Nat.{zero-add}
+use Rattle.std.specs.Prelude.{Result, Ok, Err, IsErr}
 use Rattle.octets.specs.Octets.{octets_at}
 use Rattle.octets.proofs.OctetsLaws.{put_in, length-octets}
 use Rattle.text.specs.Text.{last_place, Wrote}
@@ -14,7 +15,10 @@ use Rattle.gate.specs.Gate as gate
 use Rattle.gate.specs.declared.GateAnswer.{GateAnswer}
 use Rattle.bundle.specs.Feed.{Feed, beginning}
 use Rattle.bundle.specs.Frames.{State, call_of, bundle_of}
-use Rattle.listing.specs.Listing.{Line, line, lines_by, sheet, verdict_line, whole, listing, answer_of, output_of, Lists}
+use Rattle.listing.specs.Listing.{Line, line, lines_by, sheet, verdict_line, whole, listing, room_for, answer_of, output_of, Lists}
+use Rattle.listing.specs.declared.Listed.{Listed}
+use Rattle.listing.specs.declared.ListError.{ListError}
+use Rattle.listing.specs.declared.ListError.TheVariants.{NoRoom}
 use Rattle.bundle.specs.Cursor.{state_of, start_of, desk, read_step, desk_left, desk_feed, next_at, next_is}
 use Rattle.bundle.specs.declared.frames.Cursor.{Cursor}
 use Rattle.bundle.specs.declared.frames.Next.{Next as Told}
@@ -108,18 +112,39 @@ judged i a st part packet e f p = rw (line-is i a (call_of st packet) (e ∙ ap 
 
 -- ---- the whole listing, or none of it
 
-pub refused : {s d : List ℕ} → leb (length (listing s)) (length d) ≡ false → Lists s d (record { number = 4; length = 0; whole = false }) d
-unfolding answer_of output_of
-refused e = record { answer = rw e; output = rw e; inside = omega arith }
+room-told : (s d : List ℕ) → room_for (listing s) (length d) ≡ Ok tt → length (listing s) ≤ length d
+unfolding room_for
+room-told s d e = by (leb (length (listing s)) (length d)) refl
+  where
+    by : (b : Bool) → leb (length (listing s)) (length d) ≡ b → length (listing s) ≤ length d
+    by true t = leb-true (length (listing s)) (length d) t
+    by false t = let no : Err NoRoom ≡ Ok tt = rw t at e in cc
 
-pub done : {s d d' : List ℕ} {r : ℕ} {b : Bool} → length d ≤ last_place → leb (length (listing s)) (length d) ≡ true → Wrote d 0 (listing s) d' r → b ≡ whole s →
-    Lists s d (record { number = 0; length = r; whole = b }) d'
+no-room-told : (s d : List ℕ) {e : ListError} → room_for (listing s) (length d) ≡ Err e → length d < length (listing s)
+unfolding room_for
+no-room-told s d {e} h = by (leb (length (listing s)) (length d)) refl
+  where
+    by : (b : Bool) → leb (length (listing s)) (length d) ≡ b → length d < length (listing s)
+    by true t = let no : Ok tt ≡ Err e = rw t at h in cc
+    by false t = leb-false (length (listing s)) (length d) t
+
+-- there is one refusal
+pub refused : (s d : List ℕ) (r : Result Listed ListError) {e : ListError} → IsErr r → room_for (listing s) (length d) ≡ Err e → Lists s d r d
 unfolding answer_of output_of
-done {s} {d} {d'} {r} l e w v =
-    let room : length (listing s) ≤ length d = leb-true (length (listing s)) (length d) e in
-    let long : r ≡ length (listing s) = w.past ∙ measures (length (listing s)) (omega arith) in
+refused s d (Ok l) h f = cc
+refused s d (Err NoRoom) h f =
+    let none = lt-leb (length (listing s)) (length d) (no-room-told s d f) in
+    record { answer = rw none; output = rw none; inside = tt }
+
+pub done : {s d d' : List ℕ} {l : Listed} → length d ≤ last_place → room_for (listing s) (length d) ≡ Ok tt → Wrote d 0 (listing s) d' l.length → l.whole ≡ whole s →
+    Lists s d (Ok l) d'
+unfolding answer_of output_of
+done {s} {d} {d'} {l} h e w v =
+    let room : length (listing s) ≤ length d = room-told s d e in
+    let long : l.length ≡ length (listing s) = w.past ∙ measures (length (listing s)) (omega arith) in
+    let held = le-leb (length (listing s)) (length d) room in
     record {
-      answer = rw (e, long, v);
-      output = rw e (w.bytes ∙ put_in d 0 (listing s) (omega arith) ∙ rw zero-add);
+      answer = rw (held, ← long, ← v);
+      output = rw held (w.bytes ∙ put_in d 0 (listing s) (omega arith) ∙ rw zero-add);
       inside = omega (arith, same_length w);
     }

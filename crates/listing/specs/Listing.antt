@@ -1,5 +1,5 @@
 -- Document 01, 'The bundle and its listing': the listing of a bundle. Assumes nothing.
-use Rattle.std.specs.Prelude.{ℕ, ◌+◌, ◌≤◌, ◌≡◌, Bool, true, false, cond, List, [], ◌∷◌, ◌++◌, length, drop, ltb, leb}
+use Rattle.std.specs.Prelude.{ℕ, ◌+◌, ◌≤◌, ◌≡◌, Bool, true, false, cond, List, [], ◌∷◌, ◌++◌, length, drop, ltb, leb, Result, Ok, Err, IfOk}
 use Rattle.text.specs.Text.{ascii, decimal, numbered}
 use Rattle.verdict.specs.Verdict.{slot_of}
 use Rattle.verdict.specs.declared.FenceVerdict.{FenceVerdict}
@@ -10,6 +10,8 @@ use Rattle.gate.specs.Gate.{Call, answering, headers_of}
 use Rattle.bundle.specs.Feed.{Ending, ended, bad, Feed}
 use Rattle.bundle.specs.Frames.{bundle_of}
 use Rattle.listing.specs.declared.Listed.{Listed}
+use Rattle.listing.specs.declared.ListError.{ListError}
+use Rattle.listing.specs.declared.ListError.TheVariants.{NoRoom}
 
 -- 01's names of the verdicts
 unfoldable pub name_of : FenceVerdict → List ℕ
@@ -67,19 +69,21 @@ ends_well (bad at) = false
 unfoldable pub whole : List ℕ → Bool
 whole s = cond (ltb longest (length s)) false (ends_well (bundle_of s).ending)
 
--- a text for an output with so much room, of something whole or not: 0, its length and that, or 4 where the output is shorter ('Numbers
--- given back')
-unfoldable pub answer_of : List ℕ → Bool → ℕ → Listed
-answer_of text whole room =
-    cond (leb (length text) room) (record { number = 0; length = length text; whole = whole }) (record { number = 4; length = 0; whole = false })
+-- whether a text has room in so many bytes: "4 where the output is shorter" ('Numbers given back')
+unfoldable pub room_for : List ℕ → ℕ → Result (Unit {0}) ListError
+room_for text room = cond (leb (length text) room) (Ok tt) (Err NoRoom)
+
+-- a text for an output with so much room, of something whole or not: its length and that, or the refusal
+unfoldable pub answer_of : List ℕ → Bool → ℕ → Result Listed ListError
+answer_of text whole room = cond (leb (length text) room) (Ok (record { length = length text; whole = whole })) (Err NoRoom)
 
 -- what the output holds then: the text at the start and the rest as it was; untouched on a refusal
 unfoldable pub output_of : List ℕ → List ℕ → List ℕ
 output_of text out = cond (leb (length text) (length out)) (text ++ drop (length text) out) out
 
 -- what is answered for the bytes s, with an output that held out and holds out' then
-pub record Lists (s out : List ℕ) (r : Listed) (out' : List ℕ) : Type 0 where
+pub record Lists (s out : List ℕ) (r : Result Listed ListError) (out' : List ℕ) : Type 0 where
   pub answer : r ≡ answer_of (listing s) (whole s) (length out)
   pub output : out' ≡ output_of (listing s) out
   -- the listing lies inside the output; it follows from the two above, and is stated for a caller that takes that part
-  pub inside : r.length ≤ length out'
+  pub inside : IfOk r (λ l. l.length ≤ length out')

@@ -1,25 +1,25 @@
 // The lines of a listing, each written at a place of the output.
-ghost use Rattle.std.specs.Prelude.{◌++◌};
-ghost use Rattle.text.specs.Text.{ascii, Wrote};
+ghost use Rattle.std.specs.Prelude.{◌≡◌};
+ghost use Rattle.text.specs.Text.{Wrote};
 ghost use Rattle.listing.specs.Listing.{name_of, slot_text, line};
 
 use gate::GateAnswer;
 use verdict::{CounterSlot, FenceVerdict};
 
-// The verdict's name, with a space on each side.
+// The verdict's name.
 #[tactic(auto, unfolding(crate::specs::Listing::name_of))]
-fn put_verdict(out: &mut [u8], at: usize, verdict: FenceVerdict) -> usize
-    ensures { Wrote out.old at (ascii " " ++ name_of verdict ++ ascii " ") out.new result }
+fn name_of(verdict: FenceVerdict) -> &'static [u8]
+    ensures { result.now ≡ name_of verdict }
 {
     match verdict {
-        FenceVerdict::PassUnrelated => text::put_text(out, at, b" PassUnrelated "),
-        FenceVerdict::Allow => text::put_text(out, at, b" Allow "),
-        FenceVerdict::DropCookieZero => text::put_text(out, at, b" DropCookieZero "),
-        FenceVerdict::DropMissing => text::put_text(out, at, b" DropMissing "),
-        FenceVerdict::DropClosed => text::put_text(out, at, b" DropClosed "),
-        FenceVerdict::DropExpired => text::put_text(out, at, b" DropExpired "),
-        FenceVerdict::DropStaleToken => text::put_text(out, at, b" DropStaleToken "),
-        FenceVerdict::DropMalformed => text::put_text(out, at, b" DropMalformed "),
+        FenceVerdict::PassUnrelated => b"PassUnrelated",
+        FenceVerdict::Allow => b"Allow",
+        FenceVerdict::DropCookieZero => b"DropCookieZero",
+        FenceVerdict::DropMissing => b"DropMissing",
+        FenceVerdict::DropClosed => b"DropClosed",
+        FenceVerdict::DropExpired => b"DropExpired",
+        FenceVerdict::DropStaleToken => b"DropStaleToken",
+        FenceVerdict::DropMalformed => b"DropMalformed",
     }
 }
 
@@ -39,10 +39,12 @@ pub(crate) fn put_line(out: &mut [u8], at: usize, ordinal: u64, answer: GateAnsw
 {
     let verdict = answer.verdict;
     let slot = verdict.counter_slot();
-    let name_at = text::put_decimal(out, at, ordinal);
-    let count_at = put_verdict(out, name_at, verdict);
-    let space_at = text::put_decimal(out, count_at, answer.headers as u64);
-    let slot_at = text::put_byte(out, space_at, b' ');
-    let end_at = put_slot(out, slot_at, slot);
-    text::put_byte(out, end_at, b'\n')
+    let to = text::put_decimal(out, at, ordinal);
+    let to = text::put_byte(out, to, b' ');
+    let to = text::put_text(out, to, name_of(verdict));
+    let to = text::put_byte(out, to, b' ');
+    let to = text::put_decimal(out, to, answer.headers as u64);
+    let to = text::put_byte(out, to, b' ');
+    let to = put_slot(out, to, slot);
+    text::put_byte(out, to, b'\n')
 }

@@ -46,7 +46,8 @@ fn find_last(table: &[u8], at: usize, key: FenceCookieKey) -> &[u8]
 }
 
 // The first whole record of the table under a key, as that part of the table; an empty part where there is none. The records are passed
-// two at a time.
+// two at a time, seven instructions for two (twelve over `step_by`), and by their places: of a chunk of `chunks_exact` std tells the bytes,
+// and not where it lies, as `FirstUnder` does.
 pub fn find_record(table: &[u8], key: FenceCookieKey) -> &[u8]
     ensures { FirstUnder key.socket_cookie.0 key.durable_fence_token.0 table.entry result }
 {

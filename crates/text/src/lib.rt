@@ -1,5 +1,7 @@
 // Text written at a place of a lent buffer. Every function is total: what would lie past the end is dropped, and the place after it is
 // counted all the same, so the same functions write a text and measure it. Each answers the place after what it wrote.
+// The buffer and the place stay two parameters: a struct that held both would have to say in each contract that it still holds the same
+// buffer, and `Wrote` would be said of a struct where the four public functions promise it of the bytes.
 #![tactic(auto)]
 
 ghost use Rattle.std.specs.Prelude.{◌≤◌, ◌≡◌, [], ◌∷◌, length};

@@ -5,10 +5,10 @@ use Rattle.text.specs.Text.{last_place}
 use Rattle.listing.proofs.ListingLaws.{refused, done}
 use Rattle.listing.proofs.list.Goals as goal
 
-pub returns-then-not-has_room : goal.returns-then-not-has_room
-returns-then-not-has_room c = refused (sym c.has_room.ensures ∙ c.if-not-has_room.true)
+pub returns-in_err-check_room : goal.returns-in_err-check_room
+returns-in_err-check_room c = refused _ _ c.from_residual.result c.from_residual.ensures.0 (sym c.check_room.ensures ∙ c.in_err-check_room.was)
 
 pub returns : goal.returns
 returns c =
     let fits : length c.args.out.now ≤ last_place = omega arith in
-    done fits (sym c.has_room.ensures ∙ c.if-not-has_room.false) c.put_listing-sheet.ensures.wrote c.put_listing-sheet.ensures.whole_value
+    done fits (sym c.check_room.ensures ∙ c.in_ok-check_room.was) c.put_listing.ensures.wrote c.put_listing.ensures.whole_value

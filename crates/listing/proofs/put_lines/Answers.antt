@@ -43,30 +43,18 @@ loop-after-preserved c =
     go-line (record { next = c.next_packet.ensures }) c.loop-after.invariant c.in-Packet.is c.next_packet.auto.table
     (judged _ c.judge-answer.result _ _ _ c.judge-answer.ensures part c.put_line-to.ensures)
 
-pub shape_of-out-in-Ended : goal.shape_of-out-in-Ended
-shape_of-out-in-Ended c = same_length c.put_numbered-to.ensures ∙ c.loop-after.invariant.same_out
-
-pub shape_of-table-in-Ended : goal.shape_of-table-in-Ended
-shape_of-table-in-Ended c = c.next_packet.auto.table ∙ c.loop-after.invariant.same_table
-
 pub returns-in-Ended : goal.returns-in-Ended
 unfolding last_line lines_by beginning ends_well
 returns-in-Ended c =
     record {
-      wrote = go-last (record { next = c.next_packet.ensures }) c.loop-after.invariant c.in-Ended.is c.put_numbered-to.ensures;
+      wrote = go-last (record { next = c.next_packet.ensures }) c.loop-after.invariant c.in-Ended.is c.put_numbered-length.ensures;
       whole_value = ap ends_well (last-ending (record { next = c.next_packet.ensures }) c.loop-after.invariant c.in-Ended.is);
     }
-
-pub shape_of-out-in-Bad : goal.shape_of-out-in-Bad
-shape_of-out-in-Bad c = same_length c.put_numbered-to-in-Bad.ensures ∙ c.loop-after.invariant.same_out
-
-pub shape_of-table-in-Bad : goal.shape_of-table-in-Bad
-shape_of-table-in-Bad c = c.next_packet.auto.table ∙ c.loop-after.invariant.same_table
 
 pub returns-in-Bad : goal.returns-in-Bad
 unfolding last_line lines_by beginning ends_well
 returns-in-Bad c =
     record {
-      wrote = go-last (record { next = c.next_packet.ensures }) c.loop-after.invariant c.in-Bad.is c.put_numbered-to-in-Bad.ensures;
+      wrote = go-last (record { next = c.next_packet.ensures }) c.loop-after.invariant c.in-Bad.is c.put_numbered-length-in-Bad.ensures;
       whole_value = ap ends_well (last-ending (record { next = c.next_packet.ensures }) c.loop-after.invariant c.in-Bad.is);
     }

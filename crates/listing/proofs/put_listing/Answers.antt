@@ -7,7 +7,7 @@ pub returns-then-input-gt-MAX_BUNDLE : goal.returns-then-input-gt-MAX_BUNDLE
 unfolding listing whole
 returns-then-input-gt-MAX_BUNDLE c =
     let long = lt-ltb _ _ c.if-input-gt-MAX_BUNDLE.true in
-    record { wrote = rw long c.put_text-to.ensures; whole_value = rw long }
+    record { wrote = rw long c.put_text-length.ensures; whole_value = rw long }
 
 pub returns : goal.returns
 unfolding listing whole

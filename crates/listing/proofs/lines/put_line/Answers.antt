@@ -1,4 +1,4 @@
--- `put_line`: the six parts one after the other. Assumes nothing.
+-- `put_line`: its parts one after the other, the name with a space on each side. Assumes nothing.
 use Rattle.octets.specs.Words.{◌≤◌, length}
 use Rattle.octets.proofs.Tools.{arith}
 use Rattle.text.specs.Text.{last_place}
@@ -14,5 +14,7 @@ returns c =
     let a = c.args in
     let slot = number-injective c.counter_slot-slot.result (slot_of a.answer.verdict) c.counter_slot-slot.ensures in
     let fits : length a.out.now ≤ last_place = omega arith in
-    then fits (then fits (then fits (then fits (then fits c.put_decimal-name_at.ensures c.put_verdict-count_at.ensures) c.put_decimal-space_at.ensures) c.put_byte-slot_at.ensures)
-    (rw slot at c.put_slot-end_at.ensures)) c.put_byte.ensures
+    let kept : length c.put_decimal-to.new.out ≤ last_place = omega arith in
+    let name = then kept (then kept c.put_byte-to.ensures (rw c.name_of.ensures at c.put_text-to.ensures)) c.put_byte-to-2.ensures in
+    then fits (then fits (then fits (then fits (then fits c.put_decimal-to.ensures name) c.put_decimal-to-2.ensures) c.put_byte-to-3.ensures)
+    (rw slot at c.put_slot-to.ensures)) c.put_byte.ensures

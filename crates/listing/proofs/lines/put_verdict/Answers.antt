@@ -1,2 +1,0 @@
--- `put_verdict`: each name with its spaces is the text that is written. The attribute on the function, which opens the names, answers the
--- goals. Assumes nothing.
