@@ -30,12 +30,12 @@ fn socket_of(call: &[u8]) -> Socket
     ensures { result ≡ socket_of call.now }
 {
     let mut address = [0u8; 16];
-    octets::put_u64_le(&mut address, 0, octets::get_u64_le(call, 11));
-    octets::put_u64_le(&mut address, 8, octets::get_u64_le(call, 19));
+    octets::put_le::<u64>(&mut address, 0, octets::get_le::<u64>(call, 11));
+    octets::put_le::<u64>(&mut address, 8, octets::get_le::<u64>(call, 19));
     Socket {
         family: octets::get_u8(call, 8),
         address,
-        port: octets::get_u16_le(call, 9),
+        port: octets::get_le::<u16>(call, 9),
     }
 }
 
@@ -57,10 +57,10 @@ pub fn judge(input: &[u8], table: &[u8], cursor: Cursor, packet: &[u8]) -> GateA
     let config = body(input, &zeros, cursor.config, FenceConfig::LEN);
     let current = body(input, &zeros, cursor.current, CurrentFenceToken::LEN);
     let call = body(input, &zeros, cursor.call, CALL);
-    let attachment = octets::get_u64_le(call, 0);
+    let attachment = octets::get_le::<u64>(call, 0);
     let socket = socket_of(call);
-    let cookie = octets::get_u64_le(call, 27);
-    let time = octets::get_u64_le(call, 35);
+    let cookie = octets::get_le::<u64>(call, 27);
+    let time = octets::get_le::<u64>(call, 35);
     let records = first(table, cursor.gathered);
     gate::gate(
         config,

@@ -79,11 +79,11 @@ fn frame_at(input: &[u8], at: usize) -> Frame
     if left < HEAD {
         return Frame::Bad;
     }
-    let len = octets::get_u32_le(input, at) as usize;
+    let len = octets::get_le::<u32>(input, at) as usize;
     if left - HEAD < len {
         return Frame::Bad;
     }
-    frame_of(octets::get_u16_le(input, at + 4), len)
+    frame_of(octets::get_le::<u16>(input, at + 4), len)
 }
 
 // Before the first frame of an input of `end` bytes.
