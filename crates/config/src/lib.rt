@@ -19,7 +19,7 @@ pub struct FenceConfig {
 }
 
 // The sixteen octets of the address, read as two numbers of eight: read by `octets::array_at`, the compiler moves them in four pieces, and
-// the decoder takes nine instructions more.
+// the decoder takes seven to nine instructions more.
 fn address_at(s: &[u8]) -> [u8; 16]
     ensures { result ≡ octets_at s.now 24 16 }
 {
