@@ -122,7 +122,10 @@ pub trait Record: Copy {
     fn encode(self, out: &mut [u8]) -> Result<(), Refusal>
         ensures { Encodes codec self out.old result out.new }
     {
-        check_encoding(self.is_sound(), Self::LEN, out.len())?;
+        if !self.is_sound() {
+            return Err(Refusal::UnsoundRecord);
+        }
+        check_room(Self::LEN, out.len())?;
         self.write(out);
         Ok(())
     }
