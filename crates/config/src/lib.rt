@@ -11,7 +11,7 @@ use endpoint::ProtectedEndpoint;
 use units::RootCgroupId;
 
 // The configuration, 40 bytes: the endpoint that is protected, and the root cgroup at which the hook has to be attached.
-#[derive(Clone, Copy, Debug, PartialEq, Eq)]
+#[derive(Clone, Copy, PartialEq, Eq)]
 pub struct FenceConfig {
     pub endpoint: ProtectedEndpoint,
     pub root_cgroup_id: RootCgroupId,

@@ -19,7 +19,7 @@ use codec::{Head, Record, Refusal};
 use records::cookie_value::FenceCookieValue;
 
 // An inspection, 128 bytes: the current record, the mutation authority, and the entry that was looked up, if there is one.
-#[derive(Clone, Copy, Debug, PartialEq, Eq)]
+#[derive(Clone, Copy, PartialEq, Eq)]
 pub struct FenceInspection {
     pub current: CurrentFenceToken,
     pub mutation: FenceMutationAuthority,

@@ -10,7 +10,7 @@ use codec::{Record, Refusal};
 use units::{BootNs, ControlEpoch, DurableFenceToken, SocketCookie};
 
 // State, cookie, token, deadline and epoch of a registered socket.
-#[derive(Clone, Copy, Debug, PartialEq, Eq)]
+#[derive(Clone, Copy, PartialEq, Eq)]
 pub struct FenceCookieValue {
     pub state: FenceEntryState,
     pub socket_cookie: SocketCookie,
@@ -20,7 +20,7 @@ pub struct FenceCookieValue {
 }
 
 // The numbers of the layout's fields, as bytes or a constructor's arguments give them.
-#[derive(Clone, Copy, Debug, PartialEq, Eq)]
+#[derive(Clone, Copy, PartialEq, Eq)]
 pub struct CookieValueFields {
     pub zeros: u32,
     pub control: u32,

@@ -29,7 +29,7 @@ pub enum FenceEntryState {
 pub struct UnknownControl(pub u32);
 
 // State, token, deadline and epoch of a registered socket.
-#[derive(Clone, Copy, Debug, PartialEq, Eq)]
+#[derive(Clone, Copy, PartialEq, Eq)]
 pub struct FenceEntry {
     pub state: FenceEntryState,
     pub durable_fence_token: DurableFenceToken,
@@ -38,7 +38,7 @@ pub struct FenceEntry {
 }
 
 // The numbers of the layout's fields, as bytes or a constructor's arguments give them.
-#[derive(Clone, Copy, Debug, PartialEq, Eq)]
+#[derive(Clone, Copy, PartialEq, Eq)]
 pub struct EntryFields {
     pub zeros: u32,
     pub control: u32,
