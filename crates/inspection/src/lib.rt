@@ -30,10 +30,9 @@ pub struct FenceInspection {
 fn head_is_right(head: Head) -> bool
     ensures { result ≡ passes front_tests (head_numbers head) }
 {
-    (head.mark == FenceInspection::MARK)
-        & (head.version == FenceInspection::VERSION)
-        & matches!(head.byte, 0 | 1)
-        & (head.zero == 0)
+    head.mark == FenceInspection::MARK
+        && head.version == FenceInspection::VERSION
+        && matches!(head.byte, 0 | 1) & (head.zero == 0)
 }
 
 impl FenceInspection {
