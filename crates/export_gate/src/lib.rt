@@ -5,7 +5,7 @@
 ghost use Rattle.gate.specs.Gate.{given, gate_of};
 ghost use Rattle.export_gate.specs.Export.{Judged};
 
-use gate::Socket;
+use gate::{GateCall, Socket};
 use units::{BootNs, RootCgroupId, SocketCookie};
 
 // An address in network order; an IPv4 one stands in the first four bytes.
@@ -31,21 +31,21 @@ pub fn threadwicket_gate_raw(
     if reading.len() < export::READING {
         return export::NO_ROOM;
     }
-    let answer = gate::gate(
+    let socket = Socket {
+        family,
+        address: *address,
+        port,
+    };
+    let answer = gate::gate(&GateCall {
         config,
-        RootCgroupId(attachment),
-        Socket {
-            family,
-            address: *address,
-            port,
-        },
+        attachment: RootCgroupId(attachment),
+        socket,
         packet,
-        SocketCookie(cookie),
+        cookie: SocketCookie(cookie),
         current,
         table,
-        BootNs(now_boot_ns),
-    );
-    let verdict = answer.verdict;
-    octets::put_u64_le(reading, 0, answer.headers as u64);
-    verdict.slot_number() as u32
+        now_boot_ns: BootNs(now_boot_ns),
+    });
+    octets::put_le::<u64>(reading, 0, answer.headers as u64);
+    answer.verdict.slot_number() as u32
 }

@@ -92,7 +92,7 @@ impl FenceVerdict {
 }
 
 // What is known of the packet.
-#[derive(Clone, Copy, Debug, PartialEq, Eq)]
+#[derive(Clone, Copy, PartialEq, Eq)]
 pub struct PacketFenceContext {
     pub attachment_identity_valid: bool,
     pub socket_endpoint_matches: bool,
@@ -101,7 +101,7 @@ pub struct PacketFenceContext {
 }
 
 // What is known of the authority, as of one moment.
-#[derive(Clone, Copy, Debug, PartialEq, Eq)]
+#[derive(Clone, Copy, PartialEq, Eq)]
 pub struct FenceAuthoritySnapshot {
     // The entry of the socket, if it is registered.
     pub entry: Option<FenceEntry>,
