@@ -1,13 +1,15 @@
 // Queries 32 to 45: the constructors of the seven records. Arguments that are records come as bytes and are decoded first. The answer is
 // the constructor's number (u8), what the encoder writes of the record that was made to an output of zeros of the record's length, and
 // every field of the record that the decoder gives for those bytes, as `fields` lists them.
+ghost use Rattle.std.specs.Prelude.{◌≤◌};
+
 use crate::query::{Constructor, OfCurrent, OfEntry, OfMutation, QueryError};
 use crate::{Answers, fields, parts};
 use authority::current::CurrentFenceToken;
 use authority::mutation::FenceMutationAuthority;
+use codec::{Record, Refusal};
 use config::FenceConfig;
 use inspection::FenceInspection;
-use inspection::inspected::InspectedEntry;
 use records::cookie_value::FenceCookieValue;
 use records::entry::FenceEntry;
 use records::key::FenceCookieKey;
@@ -37,15 +39,33 @@ fn numbers<const N: usize>(body: &[u8]) -> Result<[u64; N], QueryError> {
     }
     let mut numbers = [0u64; N];
     for i in 0..N {
-        numbers[i] = octets::get_u64_le(body, 8 * i);
+        numbers[i] = octets::get_le::<u64>(body, 8 * i);
     }
     Ok(numbers)
 }
 
-// A constructor's number and the encoding.
-fn put_made(number: u32, bytes: &[u8], out: &mut Answers) {
+// The record of bytes, the all-zero one where they are refused.
+fn decoded<R: Record>(bytes: &[u8]) -> R {
+    match R::decode(bytes) {
+        Ok(value) => value,
+        Err(_) => R::blank(),
+    }
+}
+
+// Puts a constructor's number, and what is encoded of the record that it made, of N bytes; the all-zero one where it was refused. Gives the
+// record that is decoded from that.
+fn put_made<R: Record, const N: usize>(made: Result<R, Refusal>, out: &mut Answers) -> R
+    requires { N ≤ 128 }
+{
+    let (number, value) = match made {
+        Ok(value) => (0, value),
+        Err(refusal) => (refusal.number(), R::blank()),
+    };
+    let mut bytes = [0u8; N];
+    let _ = value.encode(&mut bytes);
     out.put(&[(number % 256) as u8]);
-    out.put(bytes);
+    out.put(&bytes);
+    decoded(&bytes)
 }
 
 // Query 32: nothing. 33 and 34: a token. 35: a token and a cookie.
@@ -53,7 +73,7 @@ fn current(by: OfCurrent, body: &[u8], out: &mut Answers) -> Result<(), QueryErr
     let made = match by {
         OfCurrent::Initial => {
             let [] = numbers::<0>(body)?;
-            CurrentFenceToken::initial()
+            Ok(CurrentFenceToken::initial())
         }
         OfCurrent::LifecycleOpen => {
             let [token] = numbers::<1>(body)?;
@@ -68,11 +88,8 @@ fn current(by: OfCurrent, body: &[u8], out: &mut Answers) -> Result<(), QueryErr
             CurrentFenceToken::registered(DurableFenceToken(token), SocketCookie(cookie))
         }
     };
-    let value = made.value;
-    let mut bytes = [0u8; 24];
-    value.encode(&mut bytes);
-    put_made(made.number, &bytes, out);
-    fields::put_current(CurrentFenceToken::decode(&bytes).value, out);
+    let value = put_made::<CurrentFenceToken, 24>(made, out);
+    fields::put_current(value, out);
     Ok(())
 }
 
@@ -81,18 +98,15 @@ fn mutation(by: OfMutation, body: &[u8], out: &mut Answers) -> Result<(), QueryE
     let made = match by {
         OfMutation::Initial => {
             let [] = numbers::<0>(body)?;
-            FenceMutationAuthority::initial()
+            Ok(FenceMutationAuthority::initial())
         }
         OfMutation::New => {
             let [generation, claim] = numbers::<2>(body)?;
             FenceMutationAuthority::new(generation, claim)
         }
     };
-    let value = made.value;
-    let mut bytes = [0u8; 16];
-    value.encode(&mut bytes);
-    put_made(made.number, &bytes, out);
-    fields::put_mutation(FenceMutationAuthority::decode(&bytes).value, out);
+    let value = put_made::<FenceMutationAuthority, 16>(made, out);
+    fields::put_mutation(value, out);
     Ok(())
 }
 
@@ -100,11 +114,8 @@ fn mutation(by: OfMutation, body: &[u8], out: &mut Answers) -> Result<(), QueryE
 fn key(body: &[u8], out: &mut Answers) -> Result<(), QueryError> {
     let [cookie, token] = numbers::<2>(body)?;
     let made = FenceCookieKey::new(SocketCookie(cookie), DurableFenceToken(token));
-    let value = made.value;
-    let mut bytes = [0u8; 16];
-    value.encode(&mut bytes);
-    put_made(made.number, &bytes, out);
-    fields::put_key(FenceCookieKey::decode(&bytes).value, out);
+    let value = put_made::<FenceCookieKey, 16>(made, out);
+    fields::put_key(value, out);
     Ok(())
 }
 
@@ -132,65 +143,49 @@ fn entry(by: OfEntry, body: &[u8], out: &mut Answers) -> Result<(), QueryError> 
             FenceEntry::reclaiming(DurableFenceToken(token), ControlEpoch(epoch))
         }
     };
-    let value = made.value;
-    let mut bytes = [0u8; 32];
-    value.encode(&mut bytes);
-    put_made(made.number, &bytes, out);
-    fields::put_entry(FenceEntry::decode(&bytes).value, out);
+    let value = put_made::<FenceEntry, 32>(made, out);
+    fields::put_entry(value, out);
     Ok(())
 }
 
 // Query 43: a key's bytes and an entry's.
 fn cookie_value(body: &[u8], out: &mut Answers) -> Result<(), QueryError> {
     let body = parts::exactly::<48>(body)?;
-    let key = FenceCookieKey::decode(&body[..16]).value;
-    let entry = FenceEntry::decode(&body[16..]).value;
+    let key = decoded::<FenceCookieKey>(&body[..16]);
+    let entry = decoded::<FenceEntry>(&body[16..]);
     let made = FenceCookieValue::new(key, entry);
-    let value = made.value;
-    let mut bytes = [0u8; 40];
-    value.encode(&mut bytes);
-    put_made(made.number, &bytes, out);
-    fields::put_value(FenceCookieValue::decode(&bytes).value, out);
+    let value = put_made::<FenceCookieValue, 40>(made, out);
+    fields::put_value(value, out);
     Ok(())
 }
 
 // Query 44: an endpoint, a root cgroup (u64) and a capacity (u32).
 fn config(body: &[u8], out: &mut Answers) -> Result<(), QueryError> {
     let body = parts::exactly::<31>(body)?;
-    let root = RootCgroupId(octets::get_u64_le(body, 19));
-    let made = FenceConfig::new(parts::endpoint_of(body), root, octets::get_u32_le(body, 27));
-    let value = made.value;
-    let mut bytes = [0u8; 40];
-    value.encode(&mut bytes);
-    put_made(made.number, &bytes, out);
-    let read = FenceConfig::decode(&bytes).value;
+    let root = RootCgroupId(octets::get_le::<u64>(body, 19));
+    let made = FenceConfig::new(
+        parts::endpoint_of(body),
+        root,
+        octets::get_le::<u32>(body, 27),
+    );
+    let read = put_made::<FenceConfig, 40>(made, out);
     fields::put_endpoint(read.endpoint(), out);
     out.put(&read.root_cgroup_id().0.to_le_bytes());
     out.put(&read.capacity().to_le_bytes());
     Ok(())
 }
 
-// A cookie value's bytes, where an entry is present.
-fn inspected(present: u8, bytes: &[u8]) -> InspectedEntry {
-    if present == 0 {
-        return InspectedEntry::Absent;
-    }
-    let value = FenceCookieValue::decode(bytes).value;
-    InspectedEntry::Present(value)
-}
-
 // Query 45: a current record's bytes, a mutation record's, whether there is an entry (u8), and a cookie value's.
 fn inspection(body: &[u8], out: &mut Answers) -> Result<(), QueryError> {
     let body = parts::exactly::<81>(body)?;
-    let current = CurrentFenceToken::decode(&body[..24]).value;
-    let mutation = FenceMutationAuthority::decode(&body[24..40]).value;
-    let entry = inspected(body[40], &body[41..]);
+    let current = decoded::<CurrentFenceToken>(&body[..24]);
+    let mutation = decoded::<FenceMutationAuthority>(&body[24..40]);
+    let entry = match body[40] {
+        0 => None,
+        _ => Some(decoded::<FenceCookieValue>(&body[41..])),
+    };
     let made = FenceInspection::new(current, mutation, entry);
-    let value = made.value;
-    let mut bytes = [0u8; 128];
-    value.encode(&mut bytes);
-    put_made(made.number, &bytes, out);
-    let read = FenceInspection::decode(&bytes).value;
+    let read = put_made::<FenceInspection, 128>(made, out);
     fields::put_current(read.current(), out);
     fields::put_mutation(read.mutation(), out);
     fields::put_inspected(read.entry(), out);

@@ -3,7 +3,6 @@ use crate::Answers;
 use authority::current::CurrentFenceToken;
 use authority::mutation::FenceMutationAuthority;
 use endpoint::ProtectedEndpoint;
-use inspection::inspected::InspectedEntry;
 use records::cookie_value::FenceCookieValue;
 use records::entry::{FenceEntry, FenceEntryState};
 use records::key::FenceCookieKey;
@@ -67,10 +66,10 @@ pub(crate) fn put_endpoint(value: ProtectedEndpoint, out: &mut Answers) {
 }
 
 // An inspection's entry: 1 and its cookie value's, or 0 where there is none.
-pub(crate) fn put_inspected(entry: InspectedEntry, out: &mut Answers) {
+pub(crate) fn put_inspected(entry: Option<FenceCookieValue>, out: &mut Answers) {
     match entry {
-        InspectedEntry::Absent => out.put(&[0]),
-        InspectedEntry::Present(value) => {
+        None => out.put(&[0]),
+        Some(value) => {
             out.put(&[1]);
             put_value(value, out);
         }

@@ -28,7 +28,7 @@ impl Call<'_> {
         let (head, rest) = parts::split_array::<HEAD>(body)?;
         let (config, rest) = parts::split(rest, octets::get_u8(head, 0) as usize)?;
         let (current, rest) = parts::split(rest, octets::get_u8(head, 1) as usize)?;
-        let (own, packet) = parts::split(rest, octets::get_u16_le(head, 89) as usize)?;
+        let (own, packet) = parts::split(rest, octets::get_le::<u16>(head, 89) as usize)?;
         Ok(Call {
             head,
             config,
@@ -41,7 +41,7 @@ impl Call<'_> {
     // Whether the table has no fillers.
     fn is_bare(&self) -> bool {
         let head = self.head;
-        octets::get_u32_le(head, 85) == 0
+        octets::get_le::<u32>(head, 85) == 0
     }
 
     // Puts the filler record n times.
@@ -55,9 +55,9 @@ impl Call<'_> {
 
     fn lay_out(&self, table: &mut Table) {
         let head = self.head;
-        self.put_fillers(octets::get_u16_le(head, 85), table);
+        self.put_fillers(octets::get_le::<u16>(head, 85), table);
         table.put(self.own);
-        self.put_fillers(octets::get_u16_le(head, 87), table);
+        self.put_fillers(octets::get_le::<u16>(head, 87), table);
     }
 
     // The call, with a table.
@@ -66,15 +66,15 @@ impl Call<'_> {
         let address = parts::array::<16>(head, 11);
         export_gate::threadwicket_gate_raw(
             self.config,
-            octets::get_u64_le(head, 2),
+            octets::get_le::<u64>(head, 2),
             octets::get_u8(head, 10),
             &address,
-            octets::get_u16_le(head, 27),
+            octets::get_le::<u16>(head, 27),
             self.packet,
-            octets::get_u64_le(head, 29),
+            octets::get_le::<u64>(head, 29),
             self.current,
             table,
-            octets::get_u64_le(head, 37),
+            octets::get_le::<u64>(head, 37),
             reading,
         )
     }

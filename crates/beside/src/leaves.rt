@@ -1,25 +1,30 @@
 // Queries 1 to 5: deadlines, and the endpoint's constructors and match tests.
 use crate::query::QueryError;
 use crate::{Answers, fields, parts};
-use endpoint::{EndpointAnswer, ProtectedEndpoint};
+use codec::Refusal;
+use endpoint::ProtectedEndpoint;
 
 // Query 1: the deadline check for C, `threadwicket_refresh`: the clock, the prior and the requested deadline. The answer is 01's number of
 // the decision.
 pub(crate) fn refresh(body: &[u8], out: &mut Answers) -> Result<(), QueryError> {
     let body = parts::exactly::<24>(body)?;
     let number = export::threadwicket_refresh(
-        octets::get_u64_le(body, 0),
-        octets::get_u64_le(body, 8),
-        octets::get_u64_le(body, 16),
+        octets::get_le::<u64>(body, 0),
+        octets::get_le::<u64>(body, 8),
+        octets::get_le::<u64>(body, 16),
     );
     out.put(&[(number % 256) as u8]);
     Ok(())
 }
 
-// What a constructor gave: its number, then the endpoint as a query has it.
-fn put_made(made: EndpointAnswer, out: &mut Answers) {
-    out.put(&[(made.number % 256) as u8]);
-    fields::put_endpoint(made.endpoint, out);
+// Puts what a constructor gave: its number, then the endpoint as a query has it, the all-zero one where it was refused.
+fn put_made(made: Result<ProtectedEndpoint, Refusal>, out: &mut Answers) {
+    let (number, endpoint) = match made {
+        Ok(endpoint) => (0, endpoint),
+        Err(refusal) => (refusal.number(), ProtectedEndpoint::blank()),
+    };
+    out.put(&[(number % 256) as u8]);
+    fields::put_endpoint(endpoint, out);
 }
 
 // Query 2: an IPv4 address and a port.
@@ -27,7 +32,7 @@ pub(crate) fn ipv4(body: &[u8], out: &mut Answers) -> Result<(), QueryError> {
     let body = parts::exactly::<6>(body)?;
     let address = parts::array::<4>(body, 0);
     put_made(
-        ProtectedEndpoint::ipv4(address, octets::get_u16_le(body, 4)),
+        ProtectedEndpoint::ipv4(address, octets::get_le::<u16>(body, 4)),
         out,
     );
     Ok(())
@@ -38,7 +43,7 @@ pub(crate) fn ipv6(body: &[u8], out: &mut Answers) -> Result<(), QueryError> {
     let body = parts::exactly::<18>(body)?;
     let address = parts::array::<16>(body, 0);
     put_made(
-        ProtectedEndpoint::ipv6(address, octets::get_u16_le(body, 16)),
+        ProtectedEndpoint::ipv6(address, octets::get_le::<u16>(body, 16)),
         out,
     );
     Ok(())
@@ -49,7 +54,7 @@ pub(crate) fn matches_ipv4(body: &[u8], out: &mut Answers) -> Result<(), QueryEr
     let body = parts::exactly::<25>(body)?;
     let endpoint = parts::endpoint_of(body);
     let address = parts::array::<4>(body, 19);
-    let answer = endpoint.matches_ipv4(address, octets::get_u16_le(body, 23));
+    let answer = endpoint.matches_ipv4(address, octets::get_le::<u16>(body, 23));
     out.put(&[answer as u8]);
     Ok(())
 }
@@ -59,7 +64,7 @@ pub(crate) fn matches_ipv6(body: &[u8], out: &mut Answers) -> Result<(), QueryEr
     let body = parts::exactly::<37>(body)?;
     let endpoint = parts::endpoint_of(body);
     let address = parts::array::<16>(body, 19);
-    let answer = endpoint.matches_ipv6(address, octets::get_u16_le(body, 35));
+    let answer = endpoint.matches_ipv6(address, octets::get_le::<u16>(body, 35));
     out.put(&[answer as u8]);
     Ok(())
 }

@@ -11,7 +11,7 @@ pub(crate) fn classify(body: &[u8], reading: &mut [u8]) -> Result<u32, QueryErro
         packet,
         octets::get_u8(endpoint, 0),
         &address,
-        octets::get_u16_le(endpoint, 17),
+        octets::get_le::<u16>(endpoint, 17),
         reading,
     );
     Ok(number)

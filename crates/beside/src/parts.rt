@@ -38,6 +38,6 @@ pub(crate) fn endpoint_of(body: &[u8]) -> ProtectedEndpoint
     ProtectedEndpoint {
         family: octets::get_u8(body, 0),
         address: array::<16>(body, 1),
-        port: octets::get_u16_le(body, 17),
+        port: octets::get_le::<u16>(body, 17),
     }
 }

@@ -5,7 +5,7 @@ use crate::{Answers, parts};
 use packet::PacketEndpointDisposition;
 use records::entry::{FenceEntry, FenceEntryState};
 use units::{BootNs, ControlEpoch, DurableFenceToken, SocketCookie};
-use verdict::{FenceAuthoritySnapshot, PacketFenceContext, RegisteredEntry};
+use verdict::{FenceAuthoritySnapshot, PacketFenceContext};
 
 fn state_of(number: u8) -> FenceEntryState {
     match number {
@@ -17,34 +17,33 @@ fn state_of(number: u8) -> FenceEntryState {
 }
 
 // The entry: whether there is one, its state, token, deadline and epoch.
-fn entry_of(body: &[u8]) -> RegisteredEntry {
+fn entry_of(body: &[u8]) -> Option<FenceEntry> {
     if octets::get_u8(body, 11) == 0 {
-        return RegisteredEntry::Absent;
+        return None;
     }
-    let entry = FenceEntry {
+    Some(FenceEntry {
         state: state_of(octets::get_u8(body, 12)),
-        durable_fence_token: DurableFenceToken(octets::get_u64_le(body, 13)),
-        deadline_boot_ns: BootNs(octets::get_u64_le(body, 21)),
-        control_epoch: ControlEpoch(octets::get_u64_le(body, 29)),
-    };
-    RegisteredEntry::Present(entry)
+        durable_fence_token: DurableFenceToken(octets::get_le::<u64>(body, 13)),
+        deadline_boot_ns: BootNs(octets::get_le::<u64>(body, 21)),
+        control_epoch: ControlEpoch(octets::get_le::<u64>(body, 29)),
+    })
 }
 
 fn context_of(body: &[u8]) -> PacketFenceContext {
     PacketFenceContext::new(
         octets::get_u8(body, 0) != 0,
         octets::get_u8(body, 1) != 0,
-        PacketEndpointDisposition::of_number(octets::get_u8(body, 2)),
-        SocketCookie(octets::get_u64_le(body, 3)),
+        PacketEndpointDisposition::from(octets::get_u8(body, 2)),
+        SocketCookie(octets::get_le::<u64>(body, 3)),
     )
 }
 
 fn authority_of(body: &[u8]) -> FenceAuthoritySnapshot {
     FenceAuthoritySnapshot::new(
         entry_of(body),
-        DurableFenceToken(octets::get_u64_le(body, 37)),
-        SocketCookie(octets::get_u64_le(body, 45)),
-        BootNs(octets::get_u64_le(body, 53)),
+        DurableFenceToken(octets::get_le::<u64>(body, 37)),
+        SocketCookie(octets::get_le::<u64>(body, 45)),
+        BootNs(octets::get_le::<u64>(body, 53)),
     )
 }
 
