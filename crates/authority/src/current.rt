@@ -8,7 +8,7 @@ use codec::{Record, Refusal};
 use units::{DurableFenceToken, SocketCookie};
 
 // Token, registered cookie, and whether the token is retired.
-#[derive(Clone, Copy, Debug, PartialEq, Eq)]
+#[derive(Clone, Copy, PartialEq, Eq)]
 pub struct CurrentFenceToken {
     pub durable_fence_token: DurableFenceToken,
     pub registered_socket_cookie: SocketCookie,
@@ -16,7 +16,7 @@ pub struct CurrentFenceToken {
 }
 
 // The numbers of the layout's fields, as bytes or a constructor's arguments give them.
-#[derive(Clone, Copy, Debug, PartialEq, Eq)]
+#[derive(Clone, Copy, PartialEq, Eq)]
 pub struct CurrentFields {
     pub zeros: u32,
     pub control: u32,

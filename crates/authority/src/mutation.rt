@@ -6,7 +6,7 @@ ghost use Rattle.authority.specs.Mutation.{mutation_codec};
 use codec::{Record, Refusal};
 
 // Generation and claim; a claim of 0 is none.
-#[derive(Clone, Copy, Debug, PartialEq, Eq)]
+#[derive(Clone, Copy, PartialEq, Eq)]
 pub struct FenceMutationAuthority {
     pub generation: u64,
     pub in_flight_claim: u64,

@@ -16,6 +16,10 @@ refusal_not0 BrokenRule p = omega arith
 refusal_not0 UnsoundRecord p = omega arith
 refusal_not0 NoRoom p = omega arith
 
+-- so an answer that is a refusal has another number than 0
+pub by-refusal : {A : Type 0} {r : Result A Refusal} (e : Refusal) → r ≡ Err e → number_told r ≡ 0 → ⊥
+by-refusal e i = rw i (refusal_not0 e)
+
 -- the refusal of a number
 of_number : ℕ → Refusal
 of_number n = cond (eqb n 1) WrongLength (cond (eqb n 2) BrokenRule (cond (eqb n 3) UnsoundRecord NoRoom))

@@ -15,9 +15,6 @@ refusal-number-determined κs a x y u v = as-told
 pub check-room-determined : Determined the.check_room.Kinds.ps the.check_room.Kinds.r the.check_room.Reads.Learnt
 check-room-determined κs a x y u v = as-numbered number_told done-injective x y
 
-pub check-encoding-determined : Determined the.check_encoding.Kinds.ps the.check_encoding.Kinds.r the.check_encoding.Reads.Learnt
-check-encoding-determined κs a x y u v = as-numbered number_told done-injective x y
-
 head-injective : (x y : Head) → head_numbers x ≡ head_numbers y → x ≡ y
 head-injective x y e =
     let mark : x.mark ≡ y.mark = cc in

@@ -4,7 +4,7 @@
 ghost use Rattle.std.specs.Prelude.{ℕ, ◌≡◌, length};
 ghost use Rattle.octets.specs.Octets.{put};
 ghost use Rattle.codec.specs.Layout.{size, fields_at, laid};
-ghost use Rattle.codec.specs.Codec.{Codec, room_answer, unsound_number, sound, bytes};
+ghost use Rattle.codec.specs.Codec.{Codec, room_answer, sound, bytes};
 ghost use Rattle.codec.specs.Answers.{refusal_number, number_told, Builds, Decodes, Encodes};
 ghost use Rattle.codec.specs.Head.{head_layout, head_fields, head_numbers};
 
@@ -52,7 +52,7 @@ impl fmt::Display for Refusal {
 impl Error for Refusal {}
 
 // The head of a record: mark, version, an octet of the record's own, and the zero after it.
-#[derive(Clone, Copy, Debug, PartialEq, Eq)]
+#[derive(Clone, Copy, PartialEq, Eq)]
 pub struct Head {
     pub mark: u32,
     pub version: u16,
@@ -69,16 +69,6 @@ pub fn check_room(len: usize, room: usize) -> Result<(), Refusal>
     } else {
         Err(Refusal::NoRoom)
     }
-}
-
-// Whether a record may be encoded: 3 where it is unsound, 4 where there is less room than its length.
-pub fn check_encoding(sound: bool, len: usize, room: usize) -> Result<(), Refusal>
-    ensures { number_told result ≡ room_answer (unsound_number sound) len room }
-{
-    if !sound {
-        return Err(Refusal::UnsoundRecord);
-    }
-    check_room(len, room)
 }
 
 // A record of fixed length, by what its bytes mean. What an implementation gives is its length, its rule, and how its fields are read
@@ -122,7 +112,10 @@ pub trait Record: Copy {
     fn encode(self, out: &mut [u8]) -> Result<(), Refusal>
         ensures { Encodes codec self out.old result out.new }
     {
-        check_encoding(self.is_sound(), Self::LEN, out.len())?;
+        if !self.is_sound() {
+            return Err(Refusal::UnsoundRecord);
+        }
+        check_room(Self::LEN, out.len())?;
         self.write(out);
         Ok(())
     }

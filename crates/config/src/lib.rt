@@ -11,7 +11,7 @@ use endpoint::ProtectedEndpoint;
 use units::RootCgroupId;
 
 // The configuration, 40 bytes: the endpoint that is protected, and the root cgroup at which the hook has to be attached.
-#[derive(Clone, Copy, Debug, PartialEq, Eq)]
+#[derive(Clone, Copy, PartialEq, Eq)]
 pub struct FenceConfig {
     pub endpoint: ProtectedEndpoint,
     pub root_cgroup_id: RootCgroupId,
@@ -19,7 +19,7 @@ pub struct FenceConfig {
 }
 
 // The sixteen octets of the address, read as two numbers of eight: read by `octets::array_at`, the compiler moves them in four pieces, and
-// the decoder takes nine instructions more.
+// the decoder takes seven to nine instructions more.
 fn address_at(s: &[u8]) -> [u8; 16]
     ensures { result ≡ octets_at s.now 24 16 }
 {

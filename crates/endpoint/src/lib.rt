@@ -16,7 +16,7 @@ pub type Ipv6Address = [u8; 16];
 // The Rust's enum of two cases, each with an array, as one struct: `family` is 4 or 6, and an IPv4 address stands in the first four
 // bytes of `address`. The family is a number, as bytes hold it: a value of another family can be passed too, and the packet classifier has
 // an answer for it.
-#[derive(Clone, Copy, Debug, PartialEq, Eq)]
+#[derive(Clone, Copy, PartialEq, Eq)]
 pub struct ProtectedEndpoint {
     pub family: u8,
     pub address: [u8; 16],

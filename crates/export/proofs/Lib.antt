@@ -4,6 +4,5 @@ pub mod ViewLaws
 pub mod Viewables
 pub mod InspectionLaws
 pub mod UniqueLaws
-pub mod Unique
 pub mod LentLaws
-pub mod RoomLaws
+pub mod Unique

@@ -5,15 +5,16 @@ pub use Rattle.octets.proofs.Tools.{refl, free, rules}
 use Rattle.octets.specs.Words.{ℕ, suc, ◌-◌, ◌^◌, ◌<◌, ◌≤◌, ◌≡◌, Bool, true, false, cond, ◌&&◌, List, [], ◌∷◌, ◌++◌, length, drop, eqb, ltb, leb}
 use Rattle.octets.proofs.Tools.{sym, ap, ◌∙◌, arith, eq-eqb, ne_eqb, eqb-true, lt-ltb, le-ltb, ltb-true, lt-leb}
 use Rattle.octets.proofs.Choices.{and_left, and_right}
-use Rattle.octets.specs.Octets.{Bytes, octets_at, le}
-use Rattle.octets.proofs.OctetsLaws.{length-octets, le_below, Bytes-octets, pow_pos}
+use native.Mathlib.Nat.{zero-add}
+use Rattle.octets.specs.Octets.{Bytes, octets_at, le, put}
+use Rattle.octets.proofs.OctetsLaws.{length-octets, le_below, Bytes-octets, pow_pos, put_in}
 use Rattle.codec.specs.Layout.{Field, width, size, fields_at, laid, Fit}
 use Rattle.codec.specs.Inner.Stores.{puts}
 use Rattle.codec.specs.Codec.{Codec, ok, decode_number, decode_value, room_answer, unsound_number, written, bytes, encode_number, Encoded}
 use Rattle.codec.proofs.LayoutLaws.{length-laid, puts-laid, put-laid, fit-fields, length_fields}
 use Rattle.codec.proofs.CodecLaws.{Lawful, accepted-ok, room-done, room-given, written-done, written-refused}
 use Rattle.export.specs.View.{Slot, own, fixed, View, pick, spread, wide, fitting, image_size, image, view_decode_number, view_decode_out, numbers, cleared, sound_image, image_refusal, view_encode_number, view_encode_out, ViewDecoded, ViewEncoded}
-use Rattle.export.specs.Inner.Steps.{Shown, shown, stored}
+use Rattle.export.specs.Inner.Steps.{shown, stored}
 
 -- each own number has as many octets in the image as in the layout, or more
 abbrev pub roomy : List Slot → List Field → Bool
@@ -70,20 +71,6 @@ count-numbers W f counted = length-spread W.slots (fields_at (wide W.slots) f 0)
 
 -- ---- outputs
 
--- what a run of stores leaves at the start, where there is room
-puts-start : (fs : List Field) (vs out : List ℕ) → length vs ≡ length fs → size fs ≤ length out → puts fs vs out 0 ≡ laid fs vs ++ drop (length (laid fs vs)) out
-puts-start fs vs out count room =
-    puts-laid fs vs out 0 ∙ put-laid fs vs out count room ∙ ap (λ (n : ℕ). laid fs vs ++ drop n out) (sym (length-laid fs vs count))
-
--- under the number 0 bytes b stand there, under another the output is left
-left-written : (m : ℕ) (there b out : List ℕ) → (m ≡ 0 → there ≡ b ++ drop (length b) out) → cond (eqb m 0) there out ≡ written m b out
-unfolding written
-left-written m there b out h = go (eqb m 0) refl
-  where
-    go : (c : Bool) → eqb m 0 ≡ c → cond c there out ≡ cond c (b ++ drop (length b) out) out
-    go true e = h (eqb-true m 0 e)
-    go false e = refl
-
 -- ---- decoding
 
 module _ {R : Type 0} {C : Codec R} {Formed : R → Type 0} (L : Lawful C Formed) where
@@ -93,30 +80,39 @@ module _ {R : Type 0} {C : Codec R} {Formed : R → Type 0} (L : Lawful C Formed
       let a = accepted-ok C {s = s} {v = decode_value C s} (record { number = sym e; value = refl }) in
       ap C.fields a.1.1 ∙ L.back (fields_at C.layout s 0) fit a.1.0
 
--- a choice's first side matters only where the choice falls on it
-first-side : (k : ℕ) {x y : List ℕ} (z : List ℕ) → (k ≡ 0 → x ≡ y) → cond (eqb k 0) x z ≡ cond (eqb k 0) y z
-first-side k {x} {y} z h = go (eqb k 0) refl
-  where
-    go : (c : Bool) → eqb k 0 ≡ c → cond c x z ≡ cond c y z
-    go true e = h (eqb-true k 0 e)
-    go false e = refl
+-- the own numbers of accepted bytes, stored one after the other, are the image of their record
+pub shown-image : {R : Type 0} {W : View R} {Formed : R → Type 0} (L : Viewable W Formed) (s d : List ℕ) → Bytes s → decode_number W.codec s ≡ 0 →
+    shown W s d ≡ put d 0 (image W (decode_value W.codec s))
+shown-image {W = W} L s d h e =
+    let own = pick W.slots in
+    puts-laid (wide W.slots) (own (fields_at W.codec.layout s 0)) d 0
+    ∙ ap (λ vs. put d 0 (laid (wide W.slots) (own vs))) (sym (known L.lawful s (fit-fields W.codec.layout s 0 h) e))
 
--- n is the decoder's number, and m what is answered of it
-pub decoded : {R : Type 0} {W : View R} {Formed : R → Type 0} (L : Viewable W Formed) {s out out' : List ℕ} {n m : ℕ} → Bytes s → n ≡ decode_number W.codec s →
-    Shown n (image_size W) (shown W s out) out m out' → ViewDecoded W s out m out'
-unfolding view_decode_number view_decode_out
-decoded {R} {W} {Formed} L {s} {out} {out'} {n} {m} h e p =
-    let fs = wide W.slots in
-    let vs : List ℕ = fields_at W.codec.layout s 0 in
-    let count : length (pick W.slots vs) ≡ length fs = length-pick W.slots vs (length_fields W.codec.layout s 0 ∙ sym L.counted) in
-    let there : n ≡ 0 → m ≡ 0 → shown W s out ≡ image W (decode_value W.codec s) ++ drop (length (image W (decode_value W.codec s))) out =
-    λ n0 m0. rw (known L.lawful s (fit-fields W.codec.layout s 0 h) (sym e ∙ n0))
-    (puts-start fs (pick W.slots vs) out count (room-done n (image_size W) (length out) (sym p.number ∙ m0)).1) in
-    record {
-      number = rw (sym e) p.number;
-      output = rw (sym e) (p.output ∙ first-side n (cleared (image_size W) out) (λ n0. left-written m (shown W s out) (image W (decode_value W.codec s)) out (there n0)
-          ∙ ap (λ (k : ℕ). written k (image W (decode_value W.codec s)) out) p.number));
-    }
+-- the answers of a decoder into an image of bytes s, by the decoder's number
+module _ {R : Type 0} (W : View R) {s out : List ℕ} {k : ℕ} (sized : k ≡ image_size W) where
+  -- a refusal, which clears the image
+  pub view-refused : {n : ℕ} {out' : List ℕ} → (n ≡ 0 → ⊥) → n ≡ decode_number W.codec s → out' ≡ cleared k out → ViewDecoded W s out n out'
+  unfolding view_decode_number view_decode_out room_answer
+  view-refused {n} h e p = record { number = rw (← e, ne_eqb n 0 h); output = rw (← e, ne_eqb n 0 h, ← sized) p }
+
+  -- too little room, by the number m that is not 0
+  pub view-short : {m : ℕ} → (m ≡ 0 → ⊥) → 0 ≡ decode_number W.codec s → m ≡ room_answer 0 k (length out) → ViewDecoded W s out m out
+  unfolding view_decode_number view_decode_out
+  view-short {m} h e q =
+      let r : m ≡ room_answer 0 (image_size W) (length out) = q ∙ ap (λ n. room_answer 0 n (length out)) sized in
+      record { number = rw (← e) r; output = rw (← e, ← r) (sym (written-refused m (image W (decode_value W.codec s)) out h)) }
+
+  -- the image of the record
+  pub view-done : {out' : List ℕ} → 0 ≡ decode_number W.codec s → 0 ≡ room_answer 0 k (length out) →
+      length (W.codec.fields (decode_value W.codec s)) ≡ length W.slots → out' ≡ put out 0 (image W (decode_value W.codec s)) → ViewDecoded W s out 0 out'
+  unfolding view_decode_number view_decode_out
+  view-done e q count p =
+      let r : 0 ≡ room_answer 0 (image_size W) (length out) = q ∙ ap (λ n. room_answer 0 n (length out)) sized in
+      let picture = image W (decode_value W.codec s) in
+      let long : length picture ≡ image_size W = length-laid (wide W.slots) (pick W.slots (W.codec.fields (decode_value W.codec s))) (length-pick W.slots (W.codec.fields (decode_value W.codec s)) count) in
+      let room = (room-done 0 (image_size W) (length out) (sym r)).1 in
+      let there : put out 0 picture ≡ picture ++ drop (length picture) out = rw zero-add at (put_in out 0 picture (omega arith)) in
+      record { number = rw (← e) r; output = rw (← e, ← r) (p ∙ there ∙ sym (written-done 0 picture out refl)) }
 
 -- ---- encoding: the answers on an image f
 
@@ -153,33 +149,21 @@ module _ {R : Type 0} (W : View R) (f : List ℕ) {out : List ℕ} where
   refused-wide e h = refused-unsound e (simp h)
 
   module _ (long : length f ≡ image_size W) (sound : sound_image W f ≡ true) where
-    -- too little room
-    pub refused-room : length out < size W.codec.layout → ViewEncoded W f out 4 out
-    unfolding view_encode_number view_encode_out room_answer
-    refused-room h =
-        let answered : 4 ≡ view_encode_number W f out = rw (accepted W f long sound) (simp (lt-leb _ _ h)) in
-        record { number = answered; output = sym (rw (sym answered) (written-refused 4 (laid W.codec.layout (numbers W f)) out (λ e. omega arith))) }
-
-    -- room, and the numbers stored one after the other
-    pub stored-whole : {out' : List ℕ} → length W.slots ≡ length W.codec.layout → size W.codec.layout ≤ length out → out' ≡ stored W f out → ViewEncoded W f out 0 out'
+    -- too little room, by the number m that is not 0
+    pub refused-room : {m : ℕ} → (m ≡ 0 → ⊥) → m ≡ room_answer 0 (size W.codec.layout) (length out) → ViewEncoded W f out m out
     unfolding view_encode_number view_encode_out
-    stored-whole counted room e =
-        let fs = W.codec.layout in
-        let answered : 0 ≡ view_encode_number W f out = rw (accepted W f long sound) (sym (room-given (size fs) (length out) room)) in
-        record {
-          number = answered;
-          output = e ∙ puts-start fs (numbers W f) out (count-numbers W f counted) room ∙ sym (rw (sym answered) (written-done 0 (laid fs (numbers W f)) out refl));
-        }
+    refused-room {m} h r =
+        let answered : m ≡ view_encode_number W f out = rw (accepted W f long sound) r in
+        record { number = answered; output = sym (rw (sym answered) (written-refused m (laid W.codec.layout (numbers W f)) out h)) }
 
--- the record's own encoder, on the record whose numbers the image gives
-pub by-record : {R : Type 0} (W : View R) (f : List ℕ) {v : R} {out out' : List ℕ} {m : ℕ} → length f ≡ image_size W → fitting W.codec.layout (numbers W f) ≡ true →
-    W.codec.fields v ≡ numbers W f → Encoded W.codec v out m out' → ViewEncoded W f out m out'
-unfolding view_encode_number view_encode_out image_refusal sound_image
-by-record W f {v} {out} {out'} {m} long fits same e =
-    let refusal : unsound_number (ok W.codec (W.codec.fields v)) ≡ image_refusal W f = rw same (simp (eq-eqb _ _ long, fits)) in
-    let same_number : encode_number W.codec v out ≡ view_encode_number W f out = ap (λ (k : ℕ). room_answer k (size W.codec.layout) (length out)) refusal in
-    record {
-      number = e.number ∙ same_number;
-      output = e.output ∙ ap (λ (k : ℕ). written k (bytes W.codec v) out) same_number
-          ∙ ap (λ (vs : List ℕ). written (view_encode_number W f out) (laid W.codec.layout vs) out) same;
-    }
+    -- room, and the numbers put at the start
+    pub stored-whole : {out' : List ℕ} → length W.slots ≡ length W.codec.layout → 0 ≡ room_answer 0 (size W.codec.layout) (length out) →
+        out' ≡ put out 0 (laid W.codec.layout (numbers W f)) → ViewEncoded W f out 0 out'
+    unfolding view_encode_number view_encode_out
+    stored-whole counted r e =
+        let fs = W.codec.layout in
+        let answered : 0 ≡ view_encode_number W f out = rw (accepted W f long sound) r in
+        let there : put out 0 (laid fs (numbers W f)) ≡ laid fs (numbers W f) ++ drop (length (laid fs (numbers W f))) out =
+        put-laid fs (numbers W f) out (count-numbers W f counted) (room-done 0 (size fs) (length out) (sym r)).1
+        ∙ ap (λ (n : ℕ). laid fs (numbers W f) ++ drop n out) (sym (length-laid fs (numbers W f) (count-numbers W f counted))) in
+        record { number = answered; output = e ∙ there ∙ sym (rw (sym answered) (written-done 0 (laid fs (numbers W f)) out refl)) }

@@ -1,5 +1,6 @@
 -- Each of the seven views obeys the laws of views: a slot for each field, and every record's fixed fields as the slots have them.
 -- Assumes nothing.
+use Rattle.std.specs.Prelude.{Option, Some, None}
 use Rattle.octets.specs.Words.{◌≡◌}
 use Rattle.octets.proofs.Tools.{refl}
 use Rattle.authority.specs.declared.current.CurrentFenceToken.{CurrentFenceToken}
@@ -10,8 +11,7 @@ use Rattle.records.specs.Key.{KeyFormed}
 use Rattle.records.specs.Entry.{EntryFormed}
 use Rattle.records.specs.CookieValue.{CookieValueFormed}
 use Rattle.config.specs.Config.{ConfigFormed}
-use Rattle.inspection.specs.declared.inspected.InspectedEntry.{InspectedEntry}
-use Rattle.inspection.specs.declared.inspected.InspectedEntry.TheVariants.{Absent, Present}
+use Rattle.records.specs.declared.cookie_value.FenceCookieValue.{FenceCookieValue}
 use Rattle.inspection.specs.Inspection.{inspection, inspection_codec, InspectionFormed}
 use Rattle.authority.proofs.AuthorityLaws.{current-lawful, mutation-lawful}
 use Rattle.records.proofs.RecordLaws.{key-lawful, entry-lawful, cookie-value-lawful}
@@ -39,10 +39,10 @@ cookie-value-viewable = record { lawful = cookie-value-lawful; counted = refl; n
 pub config-viewable : Viewable config_view ConfigFormed
 config-viewable = record { lawful = config-lawful; counted = refl; narrow = refl; same = λ v. refl }
 
-same_cases : (c : CurrentFenceToken) (m : FenceMutationAuthority) (e : InspectedEntry) →
+same_cases : (c : CurrentFenceToken) (m : FenceMutationAuthority) (e : Option FenceCookieValue) →
     spread inspection_view.slots (pick inspection_view.slots (inspection_codec.fields (inspection c m e))) ≡ inspection_codec.fields (inspection c m e)
-same_cases c m Absent = refl
-same_cases c m (Present v) = refl
+same_cases c m None = refl
+same_cases c m (Some v) = refl
 
 pub inspection-viewable : Viewable inspection_view InspectionFormed
 inspection-viewable = record { lawful = inspection-lawful; counted = refl; narrow = refl; same = λ v. same_cases v.current v.mutation v.entry }

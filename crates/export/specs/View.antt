@@ -17,6 +17,9 @@ pub record View (R : Type 0) : Type 0 where
   pub codec : Codec R
   pub slots : List Slot
 
+abbrev pub view_over : {R : Type 0} → Codec R → List Slot → View R
+view_over C xs = record { codec = C; slots = xs }
+
 -- the own numbers among those of a layout
 abbrev pub pick : List Slot → List ℕ → List ℕ
 pick [] vs = []

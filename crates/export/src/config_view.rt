@@ -1,56 +1,58 @@
 // The configuration for programs in other languages. Its fields: family, port, capacity, root cgroup, and the sixteen bytes of the address.
-ghost use Rattle.std.specs.Prelude.{◌≡◌, true};
-ghost use Rattle.octets.specs.Octets.{octets_at};
-ghost use Rattle.export.specs.View.{fitting, numbers, ViewDecoded, ViewEncoded};
+ghost use Rattle.std.specs.Prelude.{refl};
+ghost use Rattle.config.specs.Config.{config_codec};
+ghost use Rattle.export.specs.View.{ViewDecoded, ViewEncoded};
 ghost use Rattle.export.specs.Views.{config_view};
 
+use crate::image::{self, Image};
+use codec::Record;
 use config::FenceConfig;
 use endpoint::ProtectedEndpoint;
 use units::RootCgroupId;
 
-// The length of the fields.
-const FIELDS: usize = 48;
+impl Image for FenceConfig {
+    type Of = FenceConfig;
 
-// Whether each field fits its place.
-fn fits(fields: &[u8]) -> bool
-    ensures { result ≡ fitting config_view.codec.layout (numbers config_view fields.now) }
-{
-    let family = octets::get_u64_le(fields, 0);
-    let port = octets::get_u64_le(fields, 8);
-    let capacity = octets::get_u64_le(fields, 16);
-    (family < 0x100) & ((port < 0x1_0000) & (capacity < 0x1_0000_0000))
-}
+    ghost slots = { config_view.slots };
 
-// The sixteen bytes of the address.
-fn address_of(fields: &[u8]) -> [u8; 16]
-    ensures { result ≡ octets_at fields.now 32 16 }
-{
-    let first = octets::get_u64_le(fields, 32);
-    let second = octets::get_u64_le(fields, 40);
-    let mut address = [0u8; 16];
-    octets::put_u64_le(&mut address, 0, first);
-    octets::put_u64_le(&mut address, 8, second);
-    address
-}
+    ghost numbers = { config_codec.fields };
 
-// The record of fields that fit.
-fn record_of(fields: &[u8]) -> FenceConfig
-    requires { fitting config_view.codec.layout (numbers config_view fields.now) ≡ true }
-    ensures { config_view.codec.fields result ≡ numbers config_view fields.now }
-{
-    let family = octets::get_u64_le(fields, 0) as u8;
-    let port = octets::get_u64_le(fields, 8) as u16;
-    let capacity = octets::get_u64_le(fields, 16) as u32;
-    let root = octets::get_u64_le(fields, 24);
-    let address = address_of(fields);
-    FenceConfig {
-        endpoint: ProtectedEndpoint {
-            family,
-            address,
-            port,
-        },
-        root_cgroup_id: RootCgroupId(root),
-        capacity,
+    const LEN: usize = 48;
+
+    ghost LEN = { 48 };
+
+    ghost sized = { refl };
+
+    ghost counted = { refl };
+
+    fn of_image(image: &[u8]) -> Option<FenceConfig> {
+        let endpoint = ProtectedEndpoint {
+            family: u8::try_from(octets::get_le::<u64>(image, 0)).ok()?,
+            address: octets::array_at::<16>(image, 32),
+            port: u16::try_from(octets::get_le::<u64>(image, 8)).ok()?,
+        };
+        Some(FenceConfig {
+            endpoint,
+            root_cgroup_id: RootCgroupId(octets::get_le::<u64>(image, 24)),
+            capacity: u32::try_from(octets::get_le::<u64>(image, 16)).ok()?,
+        })
+    }
+
+    fn obey_rule(self) -> bool {
+        self.is_sound()
+    }
+
+    fn write(self, out: &mut [u8]) {
+        Record::write(self, out);
+    }
+
+    fn show(bytes: &[u8], fields: &mut [u8]) {
+        octets::put_le::<u64>(fields, 0, octets::get_u8(bytes, 6) as u64);
+        octets::put_le::<u64>(fields, 8, octets::get_be::<u16>(bytes, 8) as u64);
+        image::widen(bytes, 12, fields, 16);
+        image::carry(bytes, 16, fields, 24);
+        image::carry(bytes, 24, fields, 32);
+        image::carry(bytes, 32, fields, 40);
     }
 }
 
@@ -58,28 +60,12 @@ fn record_of(fields: &[u8]) -> FenceConfig
 pub fn threadwicket_config_decode(bytes: &[u8], fields: &mut [u8]) -> u32
     ensures { ViewDecoded config_view bytes.now fields.old result fields.new }
 {
-    let read = FenceConfig::decode(bytes).number;
-    let number = crate::view::decode_number(read, fields, FIELDS);
-    if number == 0 {
-        crate::view::widen_one(bytes, 6, fields, 0);
-        octets::put_u64_le(fields, 8, octets::get_u16_be(bytes, 8) as u64);
-        crate::view::widen_four(bytes, 12, fields, 16);
-        crate::view::carry(bytes, 16, fields, 24);
-        crate::view::carry(bytes, 24, fields, 32);
-        crate::view::carry(bytes, 32, fields, 40);
-    }
-    number
+    image::decode_number::<FenceConfig>(bytes, fields)
 }
 
-// From fields to bytes, by the record's own encoder.
+// From fields to bytes.
 pub fn threadwicket_config_encode(fields: &[u8], bytes: &mut [u8]) -> u32
     ensures { ViewEncoded config_view fields.now bytes.old result bytes.new }
 {
-    if fields.len() != FIELDS {
-        return 1;
-    }
-    if !fits(fields) {
-        return 3;
-    }
-    record_of(fields).encode(bytes)
+    image::encode_number::<FenceConfig>(fields, bytes)
 }

@@ -1,157 +1,140 @@
 // An inspection for programs in other languages. Its fields: the flag, then those of the current record, of the mutation authority and of
 // the cookie value, which are zero with flag 0.
-ghost use Rattle.std.specs.Prelude.{◌≡◌};
-ghost use Rattle.octets.specs.Octets.{put, le_bytes};
-ghost use Rattle.export.specs.View.{sound_image, ViewDecoded, ViewEncoded};
-ghost use Rattle.export.specs.Views.{current_view, mutation_view, inspection_view};
-ghost use Rattle.export.specs.Inner.Steps.{sound_at, entry_at, stored};
+ghost use Rattle.std.specs.Prelude.{refl};
+ghost use Rattle.export.specs.View.{ViewDecoded, ViewEncoded};
+ghost use Rattle.export.specs.Views.{inspection_view};
+ghost use Rattle.export.specs.Inner.Steps.{inspection_numbers};
 
+use crate::image::{self, Image};
+use authority::current::CurrentFields;
 use authority::mutation::FenceMutationAuthority;
+use codec::Record;
 use inspection::FenceInspection;
+use records::cookie_value::CookieValueFields;
 use units::{BootNs, ControlEpoch, DurableFenceToken, SocketCookie};
 
-// The length of the fields.
-const FIELDS: usize = 88;
-
-// Whether the fields in a current record's place obey its rule.
-fn current_is_sound(fields: &[u8]) -> bool
-    ensures { result ≡ sound_at current_view fields.now 8 }
-{
-    let control = octets::get_u64_le(fields, 8);
-    let token = octets::get_u64_le(fields, 16);
-    let cookie = octets::get_u64_le(fields, 24);
-    if 0xffff_ffff < control {
-        return false;
-    }
-    authority::current::rule(
-        0,
-        control as u32,
-        DurableFenceToken(token),
-        SocketCookie(cookie),
-    )
+// The numbers of an inspection's layout: the flag, and those of its parts.
+#[derive(Clone, Copy)]
+pub(crate) struct InspectionFields {
+    flag: u8,
+    current: CurrentFields,
+    mutation: FenceMutationAuthority,
+    value: CookieValueFields,
 }
 
-// Whether those in a mutation authority's place do.
-fn mutation_is_sound(fields: &[u8]) -> bool
-    ensures { result ≡ sound_at mutation_view fields.now 32 }
-{
-    let generation = octets::get_u64_le(fields, 32);
-    let in_flight_claim = octets::get_u64_le(fields, 40);
-    let authority = FenceMutationAuthority {
-        generation,
-        in_flight_claim,
-    };
-    authority.is_sound()
-}
+// What stands in the place of a cookie value with flag 0.
+const NO_VALUE: CookieValueFields = CookieValueFields {
+    zeros: 0,
+    control: 0,
+    socket_cookie: SocketCookie(0),
+    durable_fence_token: DurableFenceToken(0),
+    deadline_boot_ns: BootNs(0),
+    control_epoch: ControlEpoch(0),
+};
 
-// Whether those in a cookie value's place do under a flag of 0 or 1: zeros under 0.
-fn entry_is_sound(flag: u64, fields: &[u8]) -> bool
-    ensures { result ≡ entry_at flag fields.now }
-{
-    let control = octets::get_u64_le(fields, 48);
-    let cookie = octets::get_u64_le(fields, 56);
-    let token = octets::get_u64_le(fields, 64);
-    let deadline = octets::get_u64_le(fields, 72);
-    let epoch = octets::get_u64_le(fields, 80);
-    if flag == 0 {
-        return (control == 0) & ((cookie == 0) & ((token == 0) & ((deadline == 0) & (epoch == 0))));
-    }
-    if 0xffff_ffff < control {
-        return false;
-    }
-    records::cookie_value::rule(
-        0,
-        control as u32,
-        SocketCookie(cookie),
-        DurableFenceToken(token),
-        BootNs(deadline),
-        ControlEpoch(epoch),
-    )
-}
+impl Image for InspectionFields {
+    type Of = FenceInspection;
 
-// Whether fields are a sound record's: a flag of 0 or 1, and the parts' fields by their own rules.
-fn is_sound(fields: &[u8]) -> bool
-    ensures { result ≡ sound_image inspection_view fields.now }
-{
-    let flag = octets::get_u64_le(fields, 0);
-    if 1 < flag {
-        return false;
-    }
-    if !current_is_sound(fields) {
-        return false;
-    }
-    if !mutation_is_sound(fields) {
-        return false;
-    }
-    entry_is_sound(flag, fields)
-}
+    ghost slots = { inspection_view.slots };
 
-// The forty zeros at the end.
-fn write_tail(out: &mut [u8])
-    ensures { out.new ≡ put out.old 88 (le_bytes 40 0) }
-{
-    octets::put_u64_le(out, 88, 0);
-    octets::put_u64_le(out, 96, 0);
-    octets::put_u64_le(out, 104, 0);
-    octets::put_u64_le(out, 112, 0);
-    octets::put_u64_le(out, 120, 0);
-}
+    ghost numbers = { inspection_numbers };
 
-// The bytes of fields.
-fn write(fields: &[u8], out: &mut [u8])
-    ensures { out.new ≡ stored inspection_view fields.now out.old }
-{
-    crate::view::write_head(fields, out, FenceInspection::MARK, FenceInspection::VERSION);
-    octets::put_u32_le(out, 8, 0);
-    crate::view::narrow_four(fields, 8, out, 12);
-    crate::view::carry(fields, 16, out, 16);
-    crate::view::carry(fields, 24, out, 24);
-    crate::view::carry(fields, 32, out, 32);
-    crate::view::carry(fields, 40, out, 40);
-    octets::put_u32_le(out, 48, 0);
-    crate::view::narrow_four(fields, 48, out, 52);
-    crate::view::carry(fields, 56, out, 56);
-    crate::view::carry(fields, 64, out, 64);
-    crate::view::carry(fields, 72, out, 72);
-    crate::view::carry(fields, 80, out, 80);
-    write_tail(out);
+    const LEN: usize = 88;
+
+    ghost LEN = { 88 };
+
+    ghost sized = { refl };
+
+    ghost counted = { refl };
+
+    fn of_image(image: &[u8]) -> Option<InspectionFields> {
+        let flag = u8::try_from(octets::get_le::<u64>(image, 0)).ok()?;
+        let current = CurrentFields {
+            zeros: 0,
+            control: u32::try_from(octets::get_le::<u64>(image, 8)).ok()?,
+            durable_fence_token: DurableFenceToken(octets::get_le::<u64>(image, 16)),
+            registered_socket_cookie: SocketCookie(octets::get_le::<u64>(image, 24)),
+        };
+        let mutation = FenceMutationAuthority {
+            generation: octets::get_le::<u64>(image, 32),
+            in_flight_claim: octets::get_le::<u64>(image, 40),
+        };
+        let value = CookieValueFields {
+            zeros: 0,
+            control: u32::try_from(octets::get_le::<u64>(image, 48)).ok()?,
+            socket_cookie: SocketCookie(octets::get_le::<u64>(image, 56)),
+            durable_fence_token: DurableFenceToken(octets::get_le::<u64>(image, 64)),
+            deadline_boot_ns: BootNs(octets::get_le::<u64>(image, 72)),
+            control_epoch: ControlEpoch(octets::get_le::<u64>(image, 80)),
+        };
+        Some(InspectionFields {
+            flag,
+            current,
+            mutation,
+            value,
+        })
+    }
+
+    #[tactic(auto, using(crate::proofs::InspectionLaws::without_entry, crate::proofs::InspectionLaws::with_entry, crate::proofs::InspectionLaws::unlisted))]
+    fn obey_rule(self) -> bool {
+        let parts = self.current.obey_rule() & self.mutation.is_sound();
+        match self.flag {
+            0 => parts & (self.value == NO_VALUE),
+            1 => parts & self.value.obey_rule(),
+            _ => false,
+        }
+    }
+
+    fn write(self, out: &mut [u8]) {
+        let current = self.current;
+        let mutation = self.mutation;
+        let value = self.value;
+        codec::put_head(
+            out,
+            FenceInspection::MARK,
+            FenceInspection::VERSION,
+            self.flag,
+        );
+        octets::put_le::<u32>(out, 8, current.zeros);
+        octets::put_le::<u32>(out, 12, current.control);
+        octets::put_le::<u64>(out, 16, current.durable_fence_token.0);
+        octets::put_le::<u64>(out, 24, current.registered_socket_cookie.0);
+        octets::put_le::<u64>(out, 32, mutation.generation);
+        octets::put_le::<u64>(out, 40, mutation.in_flight_claim);
+        octets::put_le::<u32>(out, 48, value.zeros);
+        octets::put_le::<u32>(out, 52, value.control);
+        octets::put_le::<u64>(out, 56, value.socket_cookie.0);
+        octets::put_le::<u64>(out, 64, value.durable_fence_token.0);
+        octets::put_le::<u64>(out, 72, value.deadline_boot_ns.0);
+        octets::put_le::<u64>(out, 80, value.control_epoch.0);
+        octets::put_zeros(out, 88, 40);
+    }
+
+    fn show(bytes: &[u8], fields: &mut [u8]) {
+        octets::put_le::<u64>(fields, 0, octets::get_u8(bytes, 6) as u64);
+        image::widen(bytes, 12, fields, 8);
+        image::carry(bytes, 16, fields, 16);
+        image::carry(bytes, 24, fields, 24);
+        image::carry(bytes, 32, fields, 32);
+        image::carry(bytes, 40, fields, 40);
+        image::widen(bytes, 52, fields, 48);
+        image::carry(bytes, 56, fields, 56);
+        image::carry(bytes, 64, fields, 64);
+        image::carry(bytes, 72, fields, 72);
+        image::carry(bytes, 80, fields, 80);
+    }
 }
 
 // From bytes to fields.
 pub fn threadwicket_inspection_decode(bytes: &[u8], fields: &mut [u8]) -> u32
     ensures { ViewDecoded inspection_view bytes.now fields.old result fields.new }
 {
-    let read = FenceInspection::decode(bytes).number;
-    let number = crate::view::decode_number(read, fields, FIELDS);
-    if number == 0 {
-        crate::view::widen_one(bytes, 6, fields, 0);
-        crate::view::widen_four(bytes, 12, fields, 8);
-        crate::view::carry(bytes, 16, fields, 16);
-        crate::view::carry(bytes, 24, fields, 24);
-        crate::view::carry(bytes, 32, fields, 32);
-        crate::view::carry(bytes, 40, fields, 40);
-        crate::view::widen_four(bytes, 52, fields, 48);
-        crate::view::carry(bytes, 56, fields, 56);
-        crate::view::carry(bytes, 64, fields, 64);
-        crate::view::carry(bytes, 72, fields, 72);
-        crate::view::carry(bytes, 80, fields, 80);
-    }
-    number
+    image::decode_number::<InspectionFields>(bytes, fields)
 }
 
 // From fields to bytes.
 pub fn threadwicket_inspection_encode(fields: &[u8], bytes: &mut [u8]) -> u32
     ensures { ViewEncoded inspection_view fields.now bytes.old result bytes.new }
 {
-    if fields.len() != FIELDS {
-        return 1;
-    }
-    if !is_sound(fields) {
-        return 3;
-    }
-    if bytes.len() < FenceInspection::LEN {
-        return 4;
-    }
-    write(fields, bytes);
-    0
+    image::encode_number::<InspectionFields>(fields, bytes)
 }

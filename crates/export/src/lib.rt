@@ -7,10 +7,10 @@ pub mod config_view;
 pub mod cookie_value;
 pub mod current;
 pub mod entry;
+mod image;
 pub mod inspection_view;
 pub mod key;
 pub mod mutation;
-mod view;
 
 ghost use Rattle.std.specs.Prelude.{◌≡◌};
 ghost use Rattle.deadline.specs.Deadline.{refresh_decision};
@@ -52,7 +52,7 @@ pub fn threadwicket_classify_raw(
         },
     );
     let disposition = read.disposition;
-    octets::put_u64_le(reading, 0, read.headers as u64);
+    octets::put_le::<u64>(reading, 0, read.headers as u64);
     disposition.number() as u32
 }
 

@@ -20,7 +20,7 @@ use verdict::FenceVerdict;
 pub type SocketAddress = [u8; 16];
 
 // The socket that a packet leaves from. An IPv4 address stands in the first four bytes of `address`.
-#[derive(Clone, Copy, Debug, PartialEq, Eq)]
+#[derive(Clone, Copy, PartialEq, Eq)]
 pub struct Socket {
     pub family: u8,
     pub address: SocketAddress,

@@ -12,7 +12,7 @@ use Rattle.codec.specs.Layout.{fields_at}
 use Rattle.codec.specs.Codec.{Codec, passes, ok}
 use Rattle.codec.specs.Answers.{Builds}
 use Rattle.codec.specs.Head.{head_layout, head_numbers}
-use Rattle.codec.proofs.AnswerLaws.{refusal-not0}
+use Rattle.codec.proofs.AnswerLaws.{refusal_not0}
 use Rattle.codec.proofs.CodecLaws.{built-done, built-refused, done_ok, done-value, refused-ok}
 use Rattle.authority.specs.declared.current.CurrentFenceToken.{CurrentFenceToken}
 use Rattle.authority.specs.declared.mutation.FenceMutationAuthority.{FenceMutationAuthority}
@@ -31,7 +31,7 @@ use Rattle.inspection.proofs.InspectionLaws.{from_tail, from_part, from_mutation
 refused-by : {R S : Type 0} {C : Codec R} {P : Codec S} {vs ws : List ℕ} {r : Result R Refusal} (e : Refusal) → r ≡ Err e → Builds P ws (Err e) →
     (ok P ws ≡ false → ok C vs ≡ false) → Builds C vs r
 refused-by e i b h =
-    let broken = refused-ok b (refusal-not0 e) in
+    let broken = refused-ok b (refusal_not0 e) in
     rw i (built-refused refl (h broken) (b.number ∙ simp broken, refl))
 
 module _ (s : List ℕ) {head : Head} (got : head_numbers head ≡ fields_at head_layout s 0) {b : Bool} (tested : b ≡ passes front_tests (head_numbers head)) where

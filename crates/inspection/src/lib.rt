@@ -19,7 +19,7 @@ use codec::{Head, Record, Refusal};
 use records::cookie_value::FenceCookieValue;
 
 // An inspection, 128 bytes: the current record, the mutation authority, and the entry that was looked up, if there is one.
-#[derive(Clone, Copy, Debug, PartialEq, Eq)]
+#[derive(Clone, Copy, PartialEq, Eq)]
 pub struct FenceInspection {
     pub current: CurrentFenceToken,
     pub mutation: FenceMutationAuthority,
@@ -30,10 +30,9 @@ pub struct FenceInspection {
 fn head_is_right(head: Head) -> bool
     ensures { result ≡ passes front_tests (head_numbers head) }
 {
-    (head.mark == FenceInspection::MARK)
-        & (head.version == FenceInspection::VERSION)
-        & matches!(head.byte, 0 | 1)
-        & (head.zero == 0)
+    head.mark == FenceInspection::MARK
+        && head.version == FenceInspection::VERSION
+        && matches!(head.byte, 0 | 1) & (head.zero == 0)
 }
 
 impl FenceInspection {

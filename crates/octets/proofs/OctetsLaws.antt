@@ -291,7 +291,7 @@ zero-eight s at n h =
     let e : n ≡ 8 + (n - 8) = omega arith in
     ap (λ (k : ℕ). all_zero (octets_at s at k)) e ∙ zero-parts s at 8 (n - 8) ∙ ap (λ r. r && all_zero (octets_at s (at + 8) (n - 8))) (sym (zero_number (octets_at s at 8)))
 
-eqb-sym : (a b : ℕ) (p q : Bool) → eqb a b ≡ p → eqb b a ≡ q → p ≡ q
+pub eqb-sym : (a b : ℕ) (p q : Bool) → eqb a b ≡ p → eqb b a ≡ q → p ≡ q
 eqb-sym a b true true e f = refl
 eqb-sym a b true false e f = sym (eq-eqb b a (sym (eqb-true a b e))) ∙ f
 eqb-sym a b false true e f = sym e ∙ eq-eqb a b (sym (eqb-true b a f))

@@ -4,7 +4,7 @@
 // fact to show. A caller that has tested the length first pays for no second test: the compiler folds them.
 #![tactic(auto)]
 
-ghost use Rattle.std.specs.Prelude.{◌+◌, ◌<◌, ◌≤◌, ◌≡◌, length, leb};
+ghost use Rattle.std.specs.Prelude.{◌+◌, ◌<◌, ◌≤◌, ◌≡◌, length, leb, take, drop};
 ghost use Rattle.octets.specs.Octets.{octets_at, le, be, put, le_bytes, be_bytes, all_zero, same_octets};
 
 use number::Number;
@@ -34,29 +34,21 @@ pub fn put_u8(d: &mut [u8], at: usize, v: u8)
 fn lies_inside(len: usize, at: usize, n: usize) -> bool
     ensures { result ≡ leb (at + n) len }
 {
-    n <= len && at <= len - n
+    at <= len && n <= len - at
 }
 
 // The number at a place, least significant octet first.
 pub fn get_le<T: Number>(s: &[u8], at: usize) -> T
     ensures { T.value result ≡ le (octets_at s.now at T.width) }
 {
-    if lies_inside(s.len(), at, T::width()) {
-        T::whole_le(s, at)
-    } else {
-        T::whole_le(&cut::<8>(s, at), 0)
-    }
+    T::get(s, at)
 }
 
 // The number at a place, most significant octet first.
 pub fn get_be<T: Number>(s: &[u8], at: usize) -> T
     ensures { T.value result ≡ be (octets_at s.now at T.width) }
 {
-    if lies_inside(s.len(), at, T::width()) {
-        T::whole_be(s, at)
-    } else {
-        T::whole_be(&cut::<8>(s, at), 0)
-    }
+    T::get(s, at).turned()
 }
 
 // Puts a number at a place, least significant octet first.
@@ -64,41 +56,27 @@ pub fn put_le<T: Number>(d: &mut [u8], at: usize, v: T)
     ensures { d.new ≡ put d.old at (le_bytes T.width (T.value v)) }
 {
     if lies_inside(d.len(), at, T::width()) {
-        v.store_le(d, at);
+        v.store(d, at);
     } else {
-        put_cut_le(d, at, v);
+        put_cut(d, at, v);
     }
+}
+
+// The same of a number that the end cuts.
+#[inline(never)]
+fn put_cut<T: Number>(d: &mut [u8], at: usize, v: T)
+    ensures { d.new ≡ put d.old at (le_bytes T.width (T.value v)) }
+{
+    let mut all = [0; 8];
+    v.store(&mut all, 0);
+    put_octets(d, at, &all[..T::width()]);
 }
 
 // Puts a number at a place, most significant octet first.
 pub fn put_be<T: Number>(d: &mut [u8], at: usize, v: T)
     ensures { d.new ≡ put d.old at (be_bytes T.width (T.value v)) }
 {
-    if lies_inside(d.len(), at, T::width()) {
-        v.store_be(d, at);
-    } else {
-        put_cut_be(d, at, v);
-    }
-}
-
-// The same of a number that the end cuts.
-#[inline(never)]
-fn put_cut_le<T: Number>(d: &mut [u8], at: usize, v: T)
-    ensures { d.new ≡ put d.old at (le_bytes T.width (T.value v)) }
-{
-    let mut all = [0; 8];
-    v.store_le(&mut all, 0);
-    put_octets(d, at, &all[..T::width()]);
-}
-
-// The same, most significant octet first.
-#[inline(never)]
-fn put_cut_be<T: Number>(d: &mut [u8], at: usize, v: T)
-    ensures { d.new ≡ put d.old at (be_bytes T.width (T.value v)) }
-{
-    let mut all = [0; 8];
-    v.store_be(&mut all, 0);
-    put_octets(d, at, &all[..T::width()]);
+    put_le(d, at, v.turned());
 }
 
 // ---- arrays and parts
@@ -112,19 +90,17 @@ pub fn array_at<const N: usize>(s: &[u8], at: usize) -> [u8; N]
     {
         return *all;
     }
-    cut(s, at)
+    cut_array(s, at)
 }
 
 // The same where the end cuts them.
 #[inline(never)]
-fn cut<const N: usize>(s: &[u8], at: usize) -> [u8; N]
+fn cut_array<const N: usize>(s: &[u8], at: usize) -> [u8; N]
     ensures { result ≡ octets_at s.now at N }
 {
     let mut octets = [0; N];
-    if at < s.len() {
-        let n = N.min(s.len() - at);
-        octets[..n].copy_from_slice(&s[at..at + n]);
-    }
+    let inside = part(s, at, N);
+    octets[..inside.len()].copy_from_slice(inside);
     octets
 }
 
@@ -152,68 +128,45 @@ pub fn put_zeros(d: &mut [u8], at: usize, n: usize)
 
 // ---- parts of slices
 
+// The n octets of a place, so far as they lie inside.
+fn part(s: &[u8], at: usize, n: usize) -> &[u8]
+    ensures { result.now ≡ take n (drop at s.now) }
+{
+    let from = at.min(s.len());
+    &s[from..from + n.min(s.len() - from)]
+}
+
+// Whether octets are all zero.
+fn are_zero(octets: &[u8]) -> bool
+    ensures { result ≡ all_zero octets.now }
+{
+    octets.iter().all(|octet| *octet == 0)
+}
+
 // Whether the n octets of s from at on are all zero.
 pub fn is_zero(s: &[u8], at: usize, n: usize) -> bool
     ensures { result ≡ all_zero (octets_at s.now at n) }
 {
-    let mut i = at;
-    let mut left = n;
-    while left != 0 {
-        if s.len() <= i {
-            return true;
-        }
-        if s[i] != 0 {
-            return false;
-        }
-        i += 1;
-        left -= 1;
-    }
-    true
+    are_zero(part(s, at, n))
 }
 
 // The same of a long run: eight octets at a time as long as so many lie inside, then one by one.
 pub fn is_zero_run(s: &[u8], at: usize, n: usize) -> bool
     ensures { result ≡ all_zero (octets_at s.now at n) }
 {
-    if s.len() < 8 {
-        return is_zero(s, at, n);
-    }
-    let last = s.len() - 8;
-    let mut i = at;
-    let mut left = n;
-    while 8 <= left {
-        if last < i {
-            return is_zero(s, i, left);
-        }
-        if get_le::<u64>(s, i) != 0 {
-            return false;
-        }
-        i += 8;
-        left -= 8;
-    }
-    is_zero(s, i, left)
+    let (words, rest) = part(s, at, n).as_chunks::<8>();
+    words.iter().all(|word| get_le::<u64>(&word[..], 0) == 0) & are_zero(rest)
 }
 
 // Whether the n octets of a from i on equal those of b from j on.
 pub fn same(a: &[u8], i: usize, b: &[u8], j: usize, n: usize) -> bool
     ensures { result ≡ same_octets (octets_at a.now i n) (octets_at b.now j n) }
 {
-    let mut p = i;
-    let mut q = j;
-    let mut left = n;
-    while left != 0 {
-        if a.len() <= p {
-            return is_zero(b, q, left);
-        }
-        if b.len() <= q {
-            return is_zero(a, p, left);
-        }
-        if a[p] != b[q] {
-            return false;
-        }
-        p += 1;
-        q += 1;
-        left -= 1;
+    let x = part(a, i, n);
+    let y = part(b, j, n);
+    let k = x.len().min(y.len());
+    if &x[..k] != &y[..k] {
+        return false;
     }
-    true
+    are_zero(&x[k..]) & are_zero(&y[k..])
 }

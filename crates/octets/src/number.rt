@@ -1,8 +1,10 @@
 // The numbers that lie at a place of a slice. One of an octet is the base; one of twice the width is its two halves, so what holds of a
 // width is proved once.
 ghost use Rattle.std.specs.Prelude.{ℕ, ◌+◌, ◌*◌, ◌/◌, ◌%◌, ◌^◌, ◌<◌, ◌≤◌, ◌≡◌, length};
-ghost use Rattle.octets.specs.Octets.{octets_at, le, be, put, le_bytes, be_bytes};
+ghost use Rattle.octets.specs.Octets.{octets_at, le, be, put, le_bytes};
 ghost use Rattle.std.proofs.Common.{rules};
+
+use crate::{get_u8, lies_inside};
 
 // A number of some octets.
 pub trait Number: Copy + Drop {
@@ -16,24 +18,26 @@ pub trait Number: Copy + Drop {
         ensures { result ≡ width };
 
     // The number at a place, all of it inside, least significant octet first.
-    fn whole_le(s: &[u8], at: usize) -> Self
+    fn whole(s: &[u8], at: usize) -> Self
         requires { at + width ≤ length s.now }
         ensures { value result ≡ le (octets_at s.now at width) };
 
-    // The same, most significant octet first.
-    fn whole_be(s: &[u8], at: usize) -> Self
-        requires { at + width ≤ length s.now }
-        ensures { value result ≡ be (octets_at s.now at width) };
+    // The number at a place, least significant octet first.
+    fn get(s: &[u8], at: usize) -> Self
+        ensures { value result ≡ le (octets_at s.now at width) };
+
+    // The same, as half of a wider number that the end cuts.
+    fn half(s: &[u8], at: usize) -> Self
+        ensures { value result ≡ le (octets_at s.now at width) };
 
     // Puts the number at a place, all of it inside, least significant octet first.
-    fn store_le(self, d: &mut [u8], at: usize)
+    fn store(self, d: &mut [u8], at: usize)
         requires { at + width ≤ length d.old }
         ensures { d.new ≡ put d.old at (le_bytes width (value self)) };
 
-    // The same, most significant octet first.
-    fn store_be(self, d: &mut [u8], at: usize)
-        requires { at + width ≤ length d.old }
-        ensures { d.new ≡ put d.old at (be_bytes width (value self)) };
+    // The number of the same octets in the other order.
+    fn turned(self) -> Self
+        ensures { value result ≡ be (le_bytes width (value self)) };
 
     ghost at_most_8: { width ≤ 8 };
 
@@ -55,20 +59,24 @@ impl Number for u8 {
         1
     }
 
-    fn whole_le(s: &[u8], at: usize) -> u8 {
+    fn whole(s: &[u8], at: usize) -> u8 {
         s[at]
     }
 
-    fn whole_be(s: &[u8], at: usize) -> u8 {
-        s[at]
+    fn get(s: &[u8], at: usize) -> u8 {
+        get_u8(s, at)
     }
 
-    fn store_le(self, d: &mut [u8], at: usize) {
+    fn half(s: &[u8], at: usize) -> u8 {
+        get_u8(s, at)
+    }
+
+    fn store(self, d: &mut [u8], at: usize) {
         d[at] = self;
     }
 
-    fn store_be(self, d: &mut [u8], at: usize) {
-        d[at] = self;
+    fn turned(self) -> u8 {
+        self
     }
 }
 
@@ -175,25 +183,39 @@ impl<W: Wide> Number for W {
     }
 
     #[tactic(auto, using(crate::proofs::OctetsLaws::le_parts))]
-    fn whole_le(s: &[u8], at: usize) -> W {
-        let low = W::Half::whole_le(s, at);
-        let high = W::Half::whole_le(s, at + W::Half::width());
+    fn whole(s: &[u8], at: usize) -> W {
+        let low = W::Half::whole(s, at);
+        let high = W::Half::whole(s, at + W::Half::width());
         W::join(low, high)
     }
 
-    fn whole_be(s: &[u8], at: usize) -> W {
-        let high = W::Half::whole_be(s, at);
-        let low = W::Half::whole_be(s, at + W::Half::width());
+    #[tactic(auto, using(crate::proofs::OctetsLaws::le_parts, crate::proofs::PartsLaws::past_halves))]
+    fn get(s: &[u8], at: usize) -> W {
+        let width = W::Half::width();
+        if 1 < width && lies_inside(s.len(), at, width + width) {
+            return W::whole(s, at);
+        }
+        if s.len() <= at {
+            return W::join(W::Half::half(s, at), W::Half::half(s, at));
+        }
+        let low = W::Half::half(s, at);
+        let high = W::Half::half(s, at + width);
         W::join(low, high)
     }
 
-    fn store_le(self, d: &mut [u8], at: usize) {
-        self.low().store_le(d, at);
-        self.high().store_le(d, at + W::Half::width());
+    // Never compiled into its callers, so that those stay small enough to be compiled into theirs.
+    #[inline(never)]
+    fn half(s: &[u8], at: usize) -> W {
+        W::get(s, at)
     }
 
-    fn store_be(self, d: &mut [u8], at: usize) {
-        self.high().store_be(d, at);
-        self.low().store_be(d, at + W::Half::width());
+    fn store(self, d: &mut [u8], at: usize) {
+        self.low().store(d, at);
+        self.high().store(d, at + W::Half::width());
+    }
+
+    #[tactic(auto, using(crate::proofs::PartsLaws::turned_halves))]
+    fn turned(self) -> W {
+        W::join(self.high().turned(), self.low().turned())
     }
 }

@@ -10,7 +10,7 @@ use codec::{Record, Refusal};
 use units::{BootNs, ControlEpoch, DurableFenceToken, SocketCookie};
 
 // State, cookie, token, deadline and epoch of a registered socket.
-#[derive(Clone, Copy, Debug, PartialEq, Eq)]
+#[derive(Clone, Copy, PartialEq, Eq)]
 pub struct FenceCookieValue {
     pub state: FenceEntryState,
     pub socket_cookie: SocketCookie,
@@ -20,7 +20,7 @@ pub struct FenceCookieValue {
 }
 
 // The numbers of the layout's fields, as bytes or a constructor's arguments give them.
-#[derive(Clone, Copy, Debug, PartialEq, Eq)]
+#[derive(Clone, Copy, PartialEq, Eq)]
 pub struct CookieValueFields {
     pub zeros: u32,
     pub control: u32,
@@ -42,6 +42,9 @@ impl CookieValueFields {
     pub fn to_record(self) -> Result<FenceCookieValue, Refusal>
         ensures { Builds cookie_value_codec (cookie_value_numbers self) result }
     {
+        if self.zeros != 0 {
+            return Err(Refusal::BrokenRule);
+        }
         let value = FenceCookieValue {
             state: FenceEntryState::try_from(self.control)?,
             socket_cookie: self.socket_cookie,
@@ -49,7 +52,7 @@ impl CookieValueFields {
             deadline_boot_ns: self.deadline_boot_ns,
             control_epoch: self.control_epoch,
         };
-        if self.zeros == 0 && value.is_sound() {
+        if value.is_sound() {
             Ok(value)
         } else {
             Err(Refusal::BrokenRule)
@@ -153,7 +156,7 @@ impl Record for FenceCookieValue {
     }
 
     fn is_sound(self) -> bool {
-        self.socket_cookie.0 != 0 && self.entry().is_sound()
+        self.entry().is_sound() & (self.socket_cookie.0 != 0)
     }
 
     fn read(s: &[u8]) -> Result<FenceCookieValue, Refusal> {

@@ -29,7 +29,7 @@ pub enum FenceEntryState {
 pub struct UnknownControl(pub u32);
 
 // State, token, deadline and epoch of a registered socket.
-#[derive(Clone, Copy, Debug, PartialEq, Eq)]
+#[derive(Clone, Copy, PartialEq, Eq)]
 pub struct FenceEntry {
     pub state: FenceEntryState,
     pub durable_fence_token: DurableFenceToken,
@@ -38,7 +38,7 @@ pub struct FenceEntry {
 }
 
 // The numbers of the layout's fields, as bytes or a constructor's arguments give them.
-#[derive(Clone, Copy, Debug, PartialEq, Eq)]
+#[derive(Clone, Copy, PartialEq, Eq)]
 pub struct EntryFields {
     pub zeros: u32,
     pub control: u32,
@@ -123,10 +123,7 @@ impl FenceEntryState {
     ) -> bool
         ensures { result ≡ (odd_token token.0 && (deadline_fits (control_of self) deadline.0 && epoch_fits (control_of self) epoch.0)) }
     {
-        if token.0 % 2 == 0 {
-            return false;
-        }
-        match self {
+        let dated = match self {
             FenceEntryState::Active => (deadline.0 != 0) & (epoch.0 != 0),
             FenceEntryState::InitialClosed => {
                 (deadline.0 == 0) & (epoch.0 == FenceEntry::INITIAL_EPOCH)
@@ -134,7 +131,8 @@ impl FenceEntryState {
             FenceEntryState::TerminalClosed | FenceEntryState::Reclaiming => {
                 (deadline.0 == 0) & (epoch.0 != 0)
             }
-        }
+        };
+        dated & (token.0 % 2 != 0)
     }
 }
 
@@ -150,13 +148,16 @@ impl EntryFields {
     pub fn to_record(self) -> Result<FenceEntry, Refusal>
         ensures { Builds entry_codec (entry_numbers self) result }
     {
+        if self.zeros != 0 {
+            return Err(Refusal::BrokenRule);
+        }
         let value = FenceEntry {
             state: FenceEntryState::try_from(self.control)?,
             durable_fence_token: self.durable_fence_token,
             deadline_boot_ns: self.deadline_boot_ns,
             control_epoch: self.control_epoch,
         };
-        if self.zeros == 0 && value.is_sound() {
+        if value.is_sound() {
             Ok(value)
         } else {
             Err(Refusal::BrokenRule)

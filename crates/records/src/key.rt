@@ -7,7 +7,7 @@ use codec::{Record, Refusal};
 use units::{DurableFenceToken, SocketCookie};
 
 // The cookie and the token of a registered socket.
-#[derive(Clone, Copy, Debug, PartialEq, Eq)]
+#[derive(Clone, Copy, PartialEq, Eq)]
 pub struct FenceCookieKey {
     pub socket_cookie: SocketCookie,
     pub durable_fence_token: DurableFenceToken,

@@ -7,4 +7,4 @@ returns-then-reading-lt-READING c = lent-short c.if-reading-lt-READING.true
 
 pub returns : goal.returns
 returns c =
-    rw (← c.classify_l3_udp_source-read.ensures) (lent-done c.if-reading-lt-READING.false c.number.ensures c.put_u64_le.ensures)
+    rw (← c.classify_l3_udp_source-read.ensures) (lent-done c.if-reading-lt-READING.false c.number.ensures c.put_le.ensures)

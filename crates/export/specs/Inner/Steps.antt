@@ -1,21 +1,17 @@
--- What the functions inside a view are held to: the answer for an image, a layout stored field by field, and the parts of an inspection.
+-- What the functions inside a view are held to: an image and a layout stored field by field, and the parts of an inspection.
 -- Assumes nothing.
-use Rattle.std.specs.Prelude.{ℕ, ◌≡◌, Bool, cond, ◌&&◌, List, length, eqb}
-use Rattle.octets.specs.Octets.{all_zero}
+use Rattle.std.specs.Prelude.{ℕ, ◌≡◌, Bool, true, false, cond, ◌&&◌, List, [], ◌∷◌, ◌++◌, eqb, Option, Some, None}
+use Rattle.octets.specs.Octets.{all_zero, put}
 use Rattle.codec.specs.Layout.{fields_at}
 use Rattle.codec.specs.Inner.Stores.{puts}
-use Rattle.codec.specs.Codec.{room_answer, ok}
-use Rattle.export.specs.View.{View, pick, spread, wide, fitting, cleared, numbers}
-use Rattle.export.specs.Views.{cookie_value_view}
-
--- what stands in the place of an image of n octets before a record is shown, by the decoder's number
-abbrev pub image_cleared : ℕ → ℕ → List ℕ → List ℕ
-image_cleared read n out = cond (eqb read 0) out (cleared n out)
-
--- The answer m for an image of n octets, by the decoder's number: `there` is the output out with the image, and out' what it holds then.
-pub record Shown (read n : ℕ) (there out : List ℕ) (m : ℕ) (out' : List ℕ) : Type 0 where
-  pub number : m ≡ room_answer read n (length out)
-  pub output : out' ≡ cond (eqb read 0) (cond (eqb m 0) there out) (cleared n out)
+use Rattle.codec.specs.Codec.{ok, decode_number, decode_value}
+use Rattle.export.specs.View.{View, pick, spread, wide, fitting, image, numbers}
+use Rattle.codec.specs.Head.{head_fields}
+use Rattle.authority.specs.Current.{current_numbers}
+use Rattle.authority.specs.Mutation.{mutation_codec}
+use Rattle.records.specs.CookieValue.{cookie_value_numbers}
+use Rattle.inspection.specs.Inspection.{inspection_mark}
+use Rattle.export.specs.declared.inspection_view.InspectionFields.{InspectionFields}
 
 -- d with the own numbers of the bytes s as an image at the start
 abbrev pub shown : {R : Type 0} → View R → List ℕ → List ℕ → List ℕ
@@ -25,13 +21,16 @@ shown W s d = puts (wide W.slots) (pick W.slots (fields_at W.codec.layout s 0)) 
 abbrev pub stored : {R : Type 0} → View R → List ℕ → List ℕ → List ℕ
 stored W f d = puts W.codec.layout (numbers W f) d 0
 
--- of the fields from the place at on in an image f: the numbers of a layout that they give, and whether they are a sound record's
-abbrev pub numbers_at : {R : Type 0} → View R → List ℕ → ℕ → List ℕ
-numbers_at W f at = spread W.slots (fields_at (wide W.slots) f at)
+-- the numbers of an inspection's layout, by the flag and those of its parts
+abbrev pub inspection_numbers : InspectionFields → List ℕ
+inspection_numbers f =
+    head_fields inspection_mark 5 f.flag ++ (current_numbers f.current ++ (mutation_codec.fields f.mutation ++ (cookie_value_numbers f.value ++ (0 ∷ []))))
 
-abbrev pub sound_at : {R : Type 0} → View R → List ℕ → ℕ → Bool
-sound_at W f at = fitting W.codec.layout (numbers_at W f at) && ok W.codec (numbers_at W f at)
+-- Of the numbers that an image f gives: they fit their fields, and x has them, or one does not fit.
+abbrev pub Given : {R X : Type 0} → View R → (X → List ℕ) → List ℕ → Option X → Type 0
+Given W told f None = fitting W.codec.layout (numbers W f) ≡ false
+Given W told f (Some x) = (fitting W.codec.layout (numbers W f) ≡ true) × (told x ≡ numbers W f)
 
--- of the fields in a cookie value's place in an inspection's image: zeros under flag 0, else a sound record's
-abbrev pub entry_at : ℕ → List ℕ → Bool
-entry_at flag f = cond (eqb flag 0) (all_zero (numbers_at cookie_value_view f 48)) (sound_at cookie_value_view f 48)
+-- of accepted bytes s: their record's image stands at the start of what held d and holds d' then
+abbrev pub Shows : {R : Type 0} → View R → List ℕ → List ℕ → List ℕ → Type 0
+Shows W s d d' = decode_number W.codec s ≡ 0 → d' ≡ put d 0 (image W (decode_value W.codec s))

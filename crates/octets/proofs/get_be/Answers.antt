@@ -1,6 +1,6 @@
--- Of a number that the end cuts, the first octets of eight are read. Assumes nothing.
-use Rattle.octets.proofs.PartsLaws.{octets-again}
+-- `get_be`: the octets in the other order. Assumes nothing.
+use Rattle.octets.proofs.PartsLaws.{turned_read}
 use Rattle.octets.proofs.get_be.Goals as goal
 
-pub returns-else-lies_inside : goal.returns-else-lies_inside
-returns-else-lies_inside g c = rw (c.whole_be-else-lies_inside.ensures, c.cut.ensures, octets-again _ _ 8 _ g.met.T.Number.at_most_8)
+pub returns : goal.returns
+returns g c = rw (c.turned.ensures, c.get.ensures) (turned_read _ _ _ (λ i. (c.type_inv.s i).fits))

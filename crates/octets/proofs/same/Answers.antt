@@ -1,24 +1,24 @@
--- `same`: while octets are left, those passed were equal, so what is asked of all is what is asked of the rest. Past the end of one
--- slice the rest of the other has to be zero. Assumes nothing.
-use Rattle.octets.proofs.Tools.{sym, ◌∙◌, eq-eqb, ne_eqb}
-use Rattle.octets.specs.Octets.{octets_at, same_octets}
-use Rattle.octets.proofs.OctetsLaws.{same_first, same-past-left, same-past-right}
+-- `same`: the octets that lie inside both slices are compared, and the others have to be zero. Assumes nothing.
+use Rattle.octets.specs.Words.{◌≡◌, false, true, eqb, take, drop}
+use Rattle.octets.proofs.Tools.{sym, ap, ◌∙◌, not-true, not-false}
+use Rattle.octets.specs.Octets.{all_zero}
+use Rattle.octets.proofs.PartsLaws.{take-rest}
+use Rattle.octets.proofs.PaddedLaws.{same_inside}
+use Rattle.std.specs.Cmp.Lexicographic.{pointwise}
 use Rattle.octets.proofs.same.Goals as goal
 
-pub returns-then-a-p : goal.returns-then-a-p
-returns-then-a-p c = c.is_zero.ensures ∙ sym (c.loop-left.invariant ∙ same-past-left _ _ _ _ _ c.if-a-p.true)
-
-pub returns-then-b-q : goal.returns-then-b-q
-returns-then-b-q c = c.is_zero-then-b-q.ensures ∙ sym (c.loop-left.invariant ∙ same-past-right _ _ _ _ _ c.if-b-q.true)
-
-pub returns-then-a-p-2 : goal.returns-then-a-p-2
-returns-then-a-p-2 c =
-    rw (c.loop-left.invariant, same_first _ _ _ _ _ c.loop-left-test.true, ne_eqb _ _ c.if-a-p-2.true)
-
-pub loop-left-preserved : goal.loop-left-preserved
-loop-left-preserved c =
-    rw (c.loop-left.invariant, same_first _ _ _ _ _ c.loop-left-test.true, eq-eqb _ _ c.if-a-p-2.false)
+pub returns-then-ne : goal.returns-then-ne
+returns-then-ne c =
+    let a = c.args in
+    let k = c.min-k.result in
+    let differ : pointwise eqb (take k c.part-x.result.now) (take k c.part-y.result.now) ≡ false = not-true _ (sym c.ne.ensures ∙ c.if-ne.true) in
+    rw (same_inside a.a.now a.b.now _ _ a.i a.j a.n k c.part-x.ensures c.part-y.ensures c.min-k.ensures, differ)
 
 pub returns : goal.returns
-unfolding octets_at same_octets
-returns c = rw (c.loop-left.invariant, c.loop-left-test.false)
+returns c =
+    let a = c.args in
+    let k = c.min-k.result in
+    let equal : pointwise eqb (take k c.part-x.result.now) (take k c.part-y.result.now) ≡ true = not-false _ (sym c.ne.ensures ∙ c.if-ne.false) in
+    let left : c.are_zero.result ≡ all_zero (drop k c.part-x.result.now) = c.are_zero.ensures ∙ ap all_zero (take-rest c.part-x.result.now k) in
+    let right : c.are_zero-2.result ≡ all_zero (drop k c.part-y.result.now) = c.are_zero-2.ensures ∙ ap all_zero (take-rest c.part-y.result.now k) in
+    rw (left, right, same_inside a.a.now a.b.now _ _ a.i a.j a.n k c.part-x.ensures c.part-y.ensures c.min-k.ensures, equal)

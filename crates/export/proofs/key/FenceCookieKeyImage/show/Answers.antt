@@ -1,0 +1,9 @@
+-- `show`: one store for each own number. Assumes nothing.
+use Rattle.export.proofs.ViewLaws.{shown-image}
+use Rattle.export.proofs.Viewables.{key-viewable}
+use Rattle.export.proofs.key.FenceCookieKeyImage.show.Goals as goal
+
+pub returns : goal.returns
+returns c e =
+    let a = c.args in
+    rw (c.carry-2.ensures, c.carry.ensures) (shown-image key-viewable a.bytes.now a.fields.now (λ i. (c.type_inv.bytes i).fits) e)

@@ -1,5 +1,0 @@
--- `widen_four`: the number read is the number stored. Assumes nothing.
-use Rattle.export.proofs.view.widen_four.Goals as goal
-
-pub returns : goal.returns
-returns c = cc

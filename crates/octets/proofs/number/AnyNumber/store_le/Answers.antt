@@ -1,7 +1,0 @@
--- `store_le`: the law of two halves. Assumes nothing.
-use Rattle.octets.proofs.Tools.{rules}
-use Rattle.octets.proofs.OctetsLaws.{put-parts}
-use Rattle.octets.proofs.number.AnyNumber.store_le.Goals as goal
-
-pub returns : goal.returns
-returns g c = rw put-parts (search rules)
