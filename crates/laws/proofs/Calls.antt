@@ -1,5 +1,5 @@
 -- The examples of `specs/Examples.antt`: lists of calls under one statement each, which the checker computes. Assumes nothing.
-use Rattle.std.specs.Prelude.{Some}
+use Rattle.std.specs.Prelude.{Option, Some}
 use Rattle.octets.specs.Words.{ℕ, ◌≡◌}
 use Rattle.octets.proofs.Tools.{refl, ap, ◌∙◌, arith}
 use Rattle.octets.specs.Octets.{octets_at, le, be, le_bytes, be_bytes, all_zero, same_octets}
@@ -40,6 +40,6 @@ allowed = refl
 pub drops-all-is-refused : DropsAllIsRefused
 unfolding drops_all
 drops-all-is-refused h =
-    let e : Some 6 ≡ Some 0 = ap (λ r. r.slot) (h here) ∙ allowed in
+    let e : ◌≡◌ {A = Option ℕ} (Some 6) (Some 0) = ap (λ r. r.slot) (h here) ∙ allowed in
     let z : ◌≡◌ {A = ℕ} 6 0 = cc in
     omega arith
