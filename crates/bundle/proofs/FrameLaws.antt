@@ -3,8 +3,8 @@
 use Rattle.octets.specs.Words.{ℕ, ◌+◌, ◌-◌, ◌<◌, ◌≤◌, ◌≡◌, List, [], ◌++◌, length, take, drop, replicate, eqb, ltb, leb}
 use Rattle.octets.proofs.Tools.{refl, sym, ap, ◌∙◌, arith, le-leb, lt-leb, eqb-true, ltb-false}
 use Rattle.octets.proofs.Choices.{pick}
-use lib.ListN.{length-replicate, replicate-append-replicate}
-use lib.Seq.{take_at}
+use lib.ListN.{length-drop, length-replicate, replicate-append-replicate}
+use lib.Seq.{take_at, take_all}
 use Rattle.octets.specs.Octets.{octets_at, le}
 use Rattle.octets.proofs.OctetsLaws.{length-octets, octets-drop}
 use Rattle.gate.specs.Gate.{Answer, gate_of}
@@ -99,20 +99,30 @@ pub held_in : (s : List ℕ) (at n : ℕ) → at + n ≤ length s → held s at 
 unfolding held
 held_in s at n h = rw (le-leb (at + n) (length s) h)
 
+-- the part after the place, as far as the end, and of that the first n bytes
+pub held-part : (s : List ℕ) (at n : ℕ) → at + n ≤ length s → take (n - 0) (take (length s - at) (drop at s)) ≡ held s at n
+held-part s at n h =
+    let rest : length (drop at s) ≤ length s - at = rw length-drop (omega arith) in
+    let all : n - 0 ≡ n = omega arith in
+    rw (take_all (length s - at) (drop at s) rest) (octets-part s at n (n - 0) h all ∙ sym (held_in s at n h))
+
 pub held_out : (s : List ℕ) (at n : ℕ) → length s < at + n → held s at n ≡ replicate n 0
 unfolding held
 held_out s at n h = rw (lt-leb (at + n) (length s) h)
 
-zeros : (z : List ℕ) (n m : ℕ) → z ≡ replicate 43 0 → n ≤ 43 → m ≡ n → take m z ≡ replicate n 0
-zeros z n m e h k =
+-- n zeros
+abbrev some : ℕ → List ℕ
+some n = replicate n 0
+
+zeros : (n : ℕ) → n ≤ 43 → take n (some 43) ≡ some n
+zeros n h =
     let whole : n + (43 - n) ≡ 43 = omega arith in
-    let some : ℕ → List ℕ = λ j. replicate j 0 in
     let parts : some n ++ some (43 - n) ≡ some 43 = replicate-append-replicate n (43 - n) 0 ∙ ap some whole in
-    ap (take m) (e ∙ sym parts) ∙ take_at (some n) (some (43 - n)) m (length-replicate n 0 ∙ sym k)
+    ap (take n) (sym parts) ∙ take_at (some n) (some (43 - n)) n (length-replicate n 0)
 
 -- the start of the zeros, where the bytes do not lie inside
-pub held-zeros : (s z : List ℕ) (at n : ℕ) → z ≡ replicate 43 0 → n ≤ 43 → length s < at + n → take (n - 0) z ≡ held s at n
-held-zeros s z at n e h l = zeros z n (n - 0) e h (omega arith) ∙ sym (held_out s at n l)
+pub held-zeros : (s : List ℕ) (at n : ℕ) → n ≤ 43 → length s < at + n → take n (some 43) ≡ held s at n
+held-zeros s at n h l = zeros n h ∙ sym (held_out s at n l)
 
 -- the gate is asked of a packet with the parts of the state
 pub asked-as : (st : State) (packet : List ℕ) {r : Answer} {config call current table : List ℕ} {socket : Socket} {attachment cookie time : ℕ} →

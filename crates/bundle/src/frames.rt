@@ -5,6 +5,7 @@ ghost use Rattle.bundle.specs.Cursor.{start_of, next_at, next_is};
 ghost use Rattle.bundle.specs.Inner.Steps.{frame_is, size};
 
 use authority::current::CurrentFenceToken;
+use codec::Record;
 use config::FenceConfig;
 use records::cookie_value::FenceCookieValue;
 

@@ -1,4 +1,5 @@
 -- The examples of `specs/Examples.antt`: lists of calls under one statement each, which the checker computes. Assumes nothing.
+use Rattle.std.specs.Prelude.{Option, Some}
 use Rattle.octets.specs.Words.{ℕ, ◌≡◌}
 use Rattle.octets.proofs.Tools.{refl, ap, ◌∙◌, arith}
 use Rattle.octets.specs.Octets.{octets_at, le, be, le_bytes, be_bytes, all_zero, same_octets}
@@ -11,7 +12,6 @@ use Rattle.records.specs.Entry.{state_listed, deadline_fits, epoch_fits}
 use Rattle.packet.specs.Reading.{sort_of, udp_of, pass_of, counted_of, fragment_of, step_of, walk_of, ipv4_head, ipv6_head, known, classify_of}
 use Rattle.packet.specs.Example.{endpoint4500, A}
 use Rattle.isolation.specs.Places.{udp_places, named}
-use Rattle.verdict.specs.declared.CounterSlot.TheVariants.{Slot}
 use Rattle.table.specs.Table.{admissible, records_in, records, is_under, under, first_of}
 use Rattle.gate.specs.Gate.{view_of, rules, answering, same_address, matches, headers_of, gate_of}
 use Rattle.laws.specs.Calls.{configured, open9, active9, unbound, witnesses, bound, loopback, configured6, B, later9, active8, edges, here, there, drops_all, EveryRuleAnswers, EdgesHold, SomeAreAlike, DropsAllIsIsolated, DropsAllIsRefused}
@@ -33,13 +33,13 @@ pub drops-all-is-isolated : DropsAllIsIsolated
 unfolding drops_all
 drops-all-is-isolated a b h = refl
 
-allowed : (gate_of here).slot ≡ Slot 0
+allowed : (gate_of here).slot ≡ Some 0
 unfolding here endpoint4500 A configured open9 active9 unbound octets_at le be le_bytes be_bytes all_zero same_octets decode_number decode_value usable_ipv4 usable_ipv6 capacity_fits address_usable spare_zero current_listed token_fits cookie_fits state_listed deadline_fits epoch_fits sort_of udp_of pass_of counted_of fragment_of step_of walk_of ipv4_head ipv6_head known classify_of admissible records_in records is_under under first_of same_address matches view_of rules answering gate_of
 allowed = refl
 
 pub drops-all-is-refused : DropsAllIsRefused
 unfolding drops_all
 drops-all-is-refused h =
-    let e : Slot 6 ≡ Slot 0 = ap (λ r. r.slot) (h here) ∙ allowed in
+    let e : ◌≡◌ {A = Option ℕ} (Some 6) (Some 0) = ap (λ r. r.slot) (h here) ∙ allowed in
     let z : ◌≡◌ {A = ℕ} 6 0 = cc in
     omega arith

@@ -1,6 +1,7 @@
 -- The gate is `decide_egress` on what the records decode to. Where the rule that answers is none of 1, 6, 7 and 9, the gate's slot is
 -- the one that lib.rs's decision has for the packet's context and the authority's snapshot: the rules are gone through in their
 -- order, and each answers as the decision's test of the same place does. Assumes nothing.
+use Rattle.std.specs.Prelude.{Option, None, Some}
 use Rattle.octets.specs.Words.{ℕ, ◌≡◌, Bool, true, false, cond, not, ◌&&◌, ◌||◌, List, [], ◌∷◌, length, take, eqb}
 use Rattle.octets.proofs.Tools.{refl, sym, ap, ◌∙◌, true≢false, eq-eqb, eqb-true, not-false}
 use Rattle.octets.specs.Octets.{octets_at, le}
@@ -8,17 +9,15 @@ use Rattle.codec.proofs.CodecLaws.{accepted-ok}
 use Rattle.codec.specs.Codec.{decode_value}
 use Rattle.octets.proofs.Choices.{and_right}
 use Rattle.authority.specs.Current.{current_codec}
+use Rattle.records.specs.declared.entry.FenceEntry.{FenceEntry}
 use Rattle.records.specs.Entry.{closed}
 use Rattle.records.specs.CookieValue.{cookie_value_codec, entry_of}
 use Rattle.packet.specs.Reading.{Disposition, protected}
 use Rattle.packet.specs.Answers.{is_unrelated, is_indeterminate}
 use Rattle.packet.proofs.Unique.{disposition-forth}
 use Rattle.verdict.specs.Verdict.{slot_of, stale_authority, entry_verdict, registered_verdict, protected_verdict, egress_verdict}
-use Rattle.verdict.specs.declared.CounterSlot.{CounterSlot}
 use Rattle.verdict.specs.declared.FenceVerdict.TheVariants.{DropStaleToken}
 use Rattle.verdict.specs.declared.FenceAuthoritySnapshot.{FenceAuthoritySnapshot}
-use Rattle.verdict.specs.declared.RegisteredEntry.{RegisteredEntry}
-use Rattle.verdict.specs.declared.RegisteredEntry.TheVariants.{Absent, Present}
 use Rattle.table.specs.Table.{is_under, first_of}
 use Rattle.gate.specs.Gate.{Call, decodes, stale, expired, differs, reading, token, registered, unread, View, view_of, value, Rule, rules, first_rule, answering, gate_of}
 use Rattle.gate.specs.Inner.Steps.{from, numbered}
@@ -27,14 +26,14 @@ use Rattle.table.proofs.TableLaws.{First, none, first, first_found}
 use Rattle.gate.proofs.RuleLaws.{over, here, consulted-read}
 
 -- the slot of a rule, and that it is none of those that answer for bytes
-abbrev slot : Rule → CounterSlot
+abbrev slot : Rule → Option ℕ
 slot r = slot_of r.verdict
 
 abbrev Judged : Rule → Type 0
 Judged r = undecoded r.number ≡ false
 
 -- from a rule on: by what it answers, and by what those after it do
-cases : (n : ℕ) (v : View) (x : CounterSlot) {rest : List Rule} → from n rules ≡ numbered n rules ∷ rest →
+cases : (n : ℕ) (v : View) (x : Option ℕ) {rest : List Rule} → from n rules ≡ numbered n rules ∷ rest →
     ((numbered n rules).applies v ≡ true → Judged (numbered n rules) → slot (numbered n rules) ≡ x) →
     ((numbered n rules).applies v ≡ false → Judged (first_rule rest v) → slot (first_rule rest v) ≡ x) →
     Judged (first_rule (from n rules) v) → slot (first_rule (from n rules) v) ≡ x
@@ -112,18 +111,18 @@ module _ (c : Call) where
   unfolding rules view_of entry_verdict
   judged m e =
       let v = view_of c in
-      let present : entry_in c ≡ Present (entry_of (value v)) = rw m in
+      let present : entry_in c ≡ Some (entry_of (value v)) = rw m in
       by_three (stale (registered c) c.cookie) (closed (value v).state) (expired (value v).deadline_boot_ns.0 c.time) (numbered 10 rules) (numbered 11 rules) (numbered 12 rules) (numbered 13 rules) ∙
       ap (λ b. cond b (slot_of DropStaleToken) (entry_verdict (entry_of (value v)) c.time)) (sym (stale-is m e)) ∙
       ap (λ x. registered_verdict c.cookie x (snapshot_of c)) (sym present)
 
-  abbrev Registered : RegisteredEntry → CounterSlot
+  abbrev Registered : Option FenceEntry → Option ℕ
   Registered x = registered_verdict c.cookie x (snapshot_of c)
 
   registered-is : eqb c.cookie 0 ≡ false → Registered (entry_in c) ≡ protected_verdict c.cookie (snapshot_of c)
   registered-is = past c.cookie (snapshot_of c)
 
-  absent : Missing ≡ true → entry_in c ≡ Absent
+  absent : Missing ≡ true → entry_in c ≡ None
   absent m = rw m
 
   -- rules 5 to 9

@@ -1,6 +1,6 @@
 -- Calls, and what answers them: one for each of the thirteen rules, some at the rules' edges, two that demand 3 is about; and a gate that
 -- drops all, which meets demand 3 and is not this gate. Assumes nothing.
-use Rattle.std.specs.Prelude.{ℕ, ◌≡◌, true, false, List, [], ◌∷◌, ◌++◌, map, replicate, set}
+use Rattle.std.specs.Prelude.{ℕ, ◌≡◌, true, false, List, [], ◌∷◌, ◌++◌, map, replicate, set, Some}
 use Rattle.codec.specs.Codec.{bytes}
 use Rattle.endpoint.specs.declared.ProtectedEndpoint.{ProtectedEndpoint}
 use Rattle.config.specs.Config.{config, config_codec}
@@ -8,7 +8,6 @@ use Rattle.authority.specs.Current.{current, current_codec}
 use Rattle.records.specs.CookieValue.{cookie_value, cookie_value_codec}
 use Rattle.records.specs.declared.entry.FenceEntryState.TheVariants.{Active, TerminalClosed}
 use Rattle.packet.specs.Example.{endpoint4500, A}
-use Rattle.verdict.specs.declared.CounterSlot.TheVariants.{Slot}
 use Rattle.gate.specs.declared.Socket.{Socket}
 use Rattle.gate.specs.Gate.{Call, given, answering, headers_of, Answer, gate_of}
 use Rattle.isolation.specs.Isolation.{Alike}
@@ -124,7 +123,7 @@ SomeAreAlike = Alike here there
 -- ---- the gate that drops all
 
 unfoldable pub drops_all : Call → Answer
-drops_all c = record { slot = Slot 6; headers = 0 }
+drops_all c = record { slot = Some 6; headers = 0 }
 
 abbrev pub DropsAllIsIsolated : Type 0
 DropsAllIsIsolated = (a b : Call) → Alike a b → drops_all a ≡ drops_all b

@@ -1,14 +1,13 @@
 -- What `decide_egress` is given when the records decode: the packet's context and the authority's snapshot of a call (lib.rs,
 -- `PacketFenceContext` and `FenceAuthoritySnapshot`). Assumes nothing.
-use Rattle.std.specs.Prelude.{ℕ, ◌≡◌, Bool, false, cond, [], ◌∷◌, length, eqb}
+use Rattle.std.specs.Prelude.{ℕ, ◌≡◌, Bool, false, cond, [], ◌∷◌, length, eqb, Option, None, Some}
 use Rattle.records.specs.CookieValue.{entry_of}
+use Rattle.records.specs.declared.entry.FenceEntry.{FenceEntry}
 use Rattle.octets.specs.Lists.{among}
 use Rattle.packet.specs.Answers.{disposition_from}
 use Rattle.verdict.specs.Verdict.{egress_verdict}
 use Rattle.verdict.specs.declared.PacketFenceContext.{PacketFenceContext}
 use Rattle.verdict.specs.declared.FenceAuthoritySnapshot.{FenceAuthoritySnapshot}
-use Rattle.verdict.specs.declared.RegisteredEntry.{RegisteredEntry}
-use Rattle.verdict.specs.declared.RegisteredEntry.TheVariants.{Absent, Present}
 use Rattle.gate.specs.Gate.{Call, matches, endpoint, root, reading, token, registered, view_of, value, answering, gate_of}
 
 -- the rules that answer because bytes do not decode, or a table is not one
@@ -24,8 +23,8 @@ context_of c = record {
 }
 
 -- the entry that is sought, if a key is and a record stands under it
-abbrev pub entry_in : Call → RegisteredEntry
-entry_in c = cond (eqb (length (view_of c).found) 0) Absent (Present (entry_of (value (view_of c))))
+abbrev pub entry_in : Call → Option FenceEntry
+entry_in c = cond (eqb (length (view_of c).found) 0) None (Some (entry_of (value (view_of c))))
 
 abbrev pub snapshot_of : Call → FenceAuthoritySnapshot
 snapshot_of c = record {

@@ -32,8 +32,8 @@
 // - The listing. Stated in `laws/specs/Listings.antt`: one line for each packet (`lines-then-last`, `one-line-each` in
 //   `laws/proofs/EachLine.antt`), earlier lines stay (`earlier-calls-stay`, `earlier-lines-stay`, `earlier-listing-stays` in `Earlier.antt`),
 //   isolation (`isolated-line`, `isolated-sheet`, `isolated-listing` in `Alike.antt`); in `laws/specs/Bundles.antt`: 01's case and the edges
-//   of frames (`case-listed`, `edges-listed` in `Bundles.antt`). Stated in `bundle/specs/Promises.antt`: no listing is longer than the judge's
-//   output (`no_longer` in `bundle/proofs/Bound.antt`); in `text/specs/Promises.antt`: numbers read back (`decimals-read-back` in
+//   of frames (`case-listed`, `edges-listed` in `Bundles.antt`). Stated in `listing/specs/Promises.antt`: no listing is longer than the judge's
+//   output (`no_longer` in `listing/proofs/Bound.antt`); in `text/specs/Promises.antt`: numbers read back (`decimals-read-back` in
 //   `text/proofs/Digits.antt`).
 // - Images for C. Stated in `laws/specs/Images.antt`: what decoding gives, encoding takes back to the same bytes, and the other way round
 //   (`seven-rounds` in `laws/proofs/RoundTrips.antt`, a field for each record).

@@ -1,11 +1,9 @@
 -- Document 01, 'The bundle and its listing': the listing of a bundle. Assumes nothing.
-use Rattle.std.specs.Prelude.{ℕ, ◌+◌, ◌≤◌, ◌≡◌, Bool, true, false, cond, List, [], ◌∷◌, ◌++◌, length, drop, ltb, leb, Result, Ok, Err, IfOk}
+use Rattle.std.specs.Prelude.{ℕ, ◌+◌, ◌≤◌, ◌≡◌, Bool, true, false, cond, List, [], ◌∷◌, ◌++◌, length, drop, ltb, leb, Option, None, Some, Result, Ok, Err, IfOk}
 use Rattle.text.specs.Text.{ascii, decimal, numbered}
 use Rattle.verdict.specs.Verdict.{slot_of}
 use Rattle.verdict.specs.declared.FenceVerdict.{FenceVerdict}
 use Rattle.verdict.specs.declared.FenceVerdict.TheVariants.{PassUnrelated, Allow, DropCookieZero, DropMissing, DropClosed, DropExpired, DropStaleToken, DropMalformed}
-use Rattle.verdict.specs.declared.CounterSlot.{CounterSlot}
-use Rattle.verdict.specs.declared.CounterSlot.TheVariants.{Uncounted, Slot}
 use Rattle.gate.specs.Gate.{Call, answering, headers_of}
 use Rattle.bundle.specs.Feed.{Ending, ended, bad, Feed}
 use Rattle.bundle.specs.Frames.{bundle_of}
@@ -25,9 +23,9 @@ name_of DropStaleToken = ascii "DropStaleToken"
 name_of DropMalformed = ascii "DropMalformed"
 
 -- "slot or `-`"
-unfoldable pub slot_text : CounterSlot → List ℕ
-slot_text Uncounted = ascii "-"
-slot_text (Slot n) = decimal n
+unfoldable pub slot_text : Option ℕ → List ℕ
+slot_text None = ascii "-"
+slot_text (Some n) = decimal n
 
 -- "ordinal from 0, verdict, header count, slot or `-`"
 unfoldable pub line : ℕ → FenceVerdict → ℕ → List ℕ

@@ -4,7 +4,7 @@ ghost use Rattle.text.specs.Text.{Wrote};
 ghost use Rattle.listing.specs.Listing.{name_of, slot_text, line};
 
 use gate::GateAnswer;
-use verdict::{CounterSlot, FenceVerdict};
+use verdict::FenceVerdict;
 
 // The verdict's name.
 #[tactic(auto, unfolding(crate::specs::Listing::name_of))]
@@ -24,12 +24,13 @@ fn name_of(verdict: FenceVerdict) -> &'static [u8]
 }
 
 // The counter slot, or `-`.
-fn put_slot(out: &mut [u8], at: usize, slot: CounterSlot) -> usize
+#[tactic(auto, unfolding(crate::specs::Listing::slot_text))]
+fn put_slot(out: &mut [u8], at: usize, slot: Option<u32>) -> usize
     ensures { Wrote out.old at (slot_text slot) out.new result }
 {
     match slot {
-        CounterSlot::Uncounted => text::put_byte(out, at, b'-'),
-        CounterSlot::Slot(n) => text::put_decimal(out, at, n as u64),
+        None => text::put_byte(out, at, b'-'),
+        Some(n) => text::put_decimal(out, at, n as u64),
     }
 }
 

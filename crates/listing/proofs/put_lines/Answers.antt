@@ -1,8 +1,7 @@
 -- `put_lines`: the lines of the feed at the cursor are owed, and each packet leaves fewer. Assumes nothing.
 use Rattle.octets.specs.Words.{◌-◌, ◌≤◌, length}
-use Rattle.octets.proofs.Tools.{ap, ◌∙◌, arith}
+use Rattle.octets.proofs.Tools.{ap, arith}
 use Rattle.text.specs.Text.{last_place}
-use Rattle.text.proofs.TextLaws.{same_length}
 use Rattle.bundle.specs.Feed.{beginning}
 use Rattle.listing.specs.Listing.{ends_well, last_line, lines_by, verdict_line}
 use Rattle.bundle.proofs.FrameLaws.{octets-part}

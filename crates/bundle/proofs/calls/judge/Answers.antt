@@ -6,5 +6,5 @@ use Rattle.bundle.proofs.calls.judge.Goals as goal
 pub returns : goal.returns
 returns c =
     let a = c.args in
-    asked-as (state_of a.input.now a.cursor a.table.now) _ c.gate.ensures c.body-config.ensures c.body-call.ensures
-    c.get_u64_le-attachment.ensures c.socket_of-socket.ensures c.get_u64_le-cookie.ensures c.body-current.ensures c.first-records.ensures c.get_u64_le-time.ensures
+    asked-as (state_of a.input.now a.cursor a.table.now) _ c.gate.ensures c.body.ensures c.body-call.ensures
+    c.get_le.ensures c.socket_of.ensures c.get_le-2.ensures c.body-2.ensures c.first.ensures c.get_le-3.ensures

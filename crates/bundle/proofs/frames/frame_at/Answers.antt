@@ -20,16 +20,16 @@ pub returns-then-left-len-clause-found : goal.returns-then-left-len-clause-found
 unfolding frame_at
 returns-then-left-len-clause-found c =
     let a = c.args in
-    let cut : length a.input.now < past a.at (length_at a.input.now a.at) = omega (arith, c.get_u32_le-len.ensures) in
+    let cut : length a.input.now < past a.at (length_at a.input.now a.at) = omega (arith, c.get_le-len.ensures) in
     simp (lt-leb _ _ c.if-input-at.false, lt-ltb _ _ cut)
 
 pub returns-clause-found : goal.returns-clause-found
 unfolding frame_at
 returns-clause-found c =
     let a = c.args in
-    let n = c.get_u32_le-len.ensures in
+    let n = c.get_le-len.ensures in
     let whole : past a.at (length_at a.input.now a.at) ≤ length a.input.now = omega (arith, n) in
-    simp (lt-leb _ _ c.if-input-at.false, le-ltb _ _ whole, ← n, ← c.get_u16_le.ensures) c.frame_of.ensures
+    simp (lt-leb _ _ c.if-input-at.false, le-ltb _ _ whole, ← n, ← c.get_le.ensures) c.frame_of.ensures
 
 pub returns-clause-inside : goal.returns-clause-inside
-returns-clause-inside c = rw c.frame_of.ensures (omega (arith, of_size c.get_u16_le.result c.get_u32_le-len.result))
+returns-clause-inside c = rw c.frame_of.ensures (omega (arith, of_size c.get_le.result c.get_le-len.result))

@@ -3,8 +3,6 @@ use Rattle.octets.specs.Words.{◌≤◌, length}
 use Rattle.octets.proofs.Tools.{arith}
 use Rattle.text.specs.Text.{last_place}
 use Rattle.text.proofs.TextLaws.{then}
-use Rattle.verdict.specs.Verdict.{slot_of}
-use Rattle.verdict.proofs.Unique.{number-injective}
 use Rattle.listing.specs.Listing.{line}
 use Rattle.listing.proofs.lines.put_line.Goals as goal
 
@@ -12,9 +10,8 @@ pub returns : goal.returns
 unfolding line
 returns c =
     let a = c.args in
-    let slot = number-injective c.counter_slot-slot.result (slot_of a.answer.verdict) c.counter_slot-slot.ensures in
     let fits : length a.out.now ≤ last_place = omega arith in
     let kept : length c.put_decimal-to.new.out ≤ last_place = omega arith in
     let name = then kept (then kept c.put_byte-to.ensures (rw c.name_of.ensures at c.put_text-to.ensures)) c.put_byte-to-2.ensures in
     then fits (then fits (then fits (then fits (then fits c.put_decimal-to.ensures name) c.put_decimal-to-2.ensures) c.put_byte-to-3.ensures)
-    (rw slot at c.put_slot-to.ensures)) c.put_byte.ensures
+    (rw c.counter_slot-slot.ensures at c.put_slot-to.ensures)) c.put_byte.ensures
