@@ -4,7 +4,7 @@ use Rattle.octets.specs.Words.{◌≡◌}
 use Rattle.octets.proofs.Tools.{refl}
 use Rattle.octets.specs.Determined.{Determined}
 use Rattle.octets.proofs.UniqueLaws.{as-told, as-numbered}
-use Rattle.codec.proofs.UniqueLaws.{as-built, as-decoded, as-encoded, as-given, as-put}
+use Rattle.codec.proofs.UniqueLaws.{as-made, as-built, as-decoded, as-encoded, as-given, as-put}
 use Rattle.authority.specs.declared.current.CurrentFields.{CurrentFields}
 use Rattle.authority.specs.Current.{current_numbers}
 use Rattle.authority.proofs.mutation.FenceMutationAuthority as mutation
@@ -107,3 +107,9 @@ current-blank-determined κs a x y u v = as-told
 
 pub mutation-blank-determined : Determined mutation-record.blank.Kinds.ps mutation-record.blank.Kinds.r mutation-record.blank.Reads.Learnt
 mutation-blank-determined κs a x y u v = as-told
+
+pub current-if-sound-determined : Determined current-record.if_sound.Kinds.ps current-record.if_sound.Kinds.r current-record.if_sound.Reads.Learnt
+current-if-sound-determined κs a x y u v = as-made x y
+
+pub mutation-if-sound-determined : Determined mutation-record.if_sound.Kinds.ps mutation-record.if_sound.Kinds.r mutation-record.if_sound.Reads.Learnt
+mutation-if-sound-determined κs a x y u v = as-made x y

@@ -27,15 +27,11 @@ impl FenceMutationAuthority {
     pub fn new(generation: u64, in_flight_claim: u64) -> Result<FenceMutationAuthority, Refusal>
         ensures { Builds mutation_codec (generation ∷ in_flight_claim ∷ []) result }
     {
-        let value = FenceMutationAuthority {
+        FenceMutationAuthority {
             generation,
             in_flight_claim,
-        };
-        if value.is_sound() {
-            Ok(value)
-        } else {
-            Err(Refusal::BrokenRule)
         }
+        .if_sound()
     }
 
     // The last completed generation.

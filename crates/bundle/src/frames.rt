@@ -105,6 +105,7 @@ pub fn next_packet(input: &[u8], table: &mut [u8], from: Cursor) -> Next
     ensures { next_is input.now table.new result ≡ next_at input.now (record { cursor = from; table = table.old }) }
 {
     let mut cursor = from;
+    // Nothing is counted: how far a turn goes on is the frame's own length.
     loop {
         let at = cursor.at;
         match frame_at(input, at) {

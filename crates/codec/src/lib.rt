@@ -5,7 +5,7 @@ ghost use Rattle.std.specs.Prelude.{ℕ, ◌≡◌, length};
 ghost use Rattle.octets.specs.Octets.{put};
 ghost use Rattle.codec.specs.Layout.{size, fields_at, laid};
 ghost use Rattle.codec.specs.Codec.{Codec, room_answer, sound, bytes};
-ghost use Rattle.codec.specs.Answers.{refusal_number, number_told, Builds, Decodes, Encodes};
+ghost use Rattle.codec.specs.Answers.{refusal_number, number_told, Builds, Makes, Decodes, Encodes};
 ghost use Rattle.codec.specs.Head.{head_layout, head_fields, head_numbers};
 
 use std::error::Error;
@@ -106,6 +106,17 @@ pub trait Record: Copy {
             return Err(Refusal::WrongLength);
         }
         Self::read(s)
+    }
+
+    // The record itself, or 2 where it is unsound.
+    fn if_sound(self) -> Result<Self, Refusal>
+        ensures { Makes codec self result }
+    {
+        if self.is_sound() {
+            Ok(self)
+        } else {
+            Err(Refusal::BrokenRule)
+        }
     }
 
     // Puts the record's bytes at the start of `out`: 3 where it is unsound, 4 where there is too little room, and then nothing is put.

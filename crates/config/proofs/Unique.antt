@@ -36,3 +36,6 @@ decode-determined κs a x y u v = as-decoded x y
 
 pub encode-determined : Determined config-record.encode.Kinds.ps config-record.encode.Kinds.r config-record.encode.Reads.Learnt
 encode-determined κs a x y u v = as-encoded x y u v refl refl
+
+pub if-sound-determined : Determined config-record.if_sound.Kinds.ps config-record.if_sound.Kinds.r config-record.if_sound.Reads.Learnt
+if-sound-determined κs a x y u v = as-made x y

@@ -49,16 +49,12 @@ impl FenceConfig {
     ) -> Result<FenceConfig, Refusal>
         ensures { Makes config_codec (config endpoint root_cgroup_id.0 capacity) result }
     {
-        let value = FenceConfig {
+        FenceConfig {
             endpoint,
             root_cgroup_id,
             capacity,
-        };
-        if value.is_sound() {
-            Ok(value)
-        } else {
-            Err(Refusal::BrokenRule)
         }
+        .if_sound()
     }
 
     // The protected endpoint.

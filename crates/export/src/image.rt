@@ -120,7 +120,7 @@ pub(crate) fn carry(s: &[u8], i: usize, d: &mut [u8], j: usize)
     octets::put_le::<u64>(d, j, octets::get_le::<u64>(s, i));
 }
 
-// One of four octets as one of eight.
+// One of four octets as one of eight. Two functions for two widths: of a number of any width the value is known to proofs alone.
 pub(crate) fn widen(s: &[u8], i: usize, d: &mut [u8], j: usize)
     ensures { d.new ≡ put d.old j (le_bytes 8 (le (octets_at s.now i 4))) }
 {

@@ -21,7 +21,7 @@ use Rattle.records.specs.CookieValue.{cookie_value, cookie_value_codec}
 use Rattle.records.proofs.States.{state-back}
 use Rattle.records.proofs.RecordLaws.{cookie-value-lawful}
 use Rattle.inspection.specs.Inspected.{flag_listed, present_flag, part_fields, part_numbers, part_of, PartFormed}
-use Rattle.inspection.specs.Inner.Steps.{part_taken}
+use Rattle.inspection.specs.Inner.Steps.{part_obeys}
 
 -- ---- a part of a record, from a place on
 
@@ -116,7 +116,7 @@ pub zero-entry : (s : List ℕ) → all_zero (octets_at s 48 40) ≡ all_zero (f
 zero-entry s = zero-fields (4 ∷ 4 ∷ 8 ∷ 8 ∷ 8 ∷ 8 ∷ []) s 48
 
 -- under a flag that is listed the reader takes what the rule accepts
-pub taken : (flag : ℕ) (vs : List ℕ) → flag_listed flag ≡ true → part_taken flag vs ≡ part_fits flag vs
+pub taken : (flag : ℕ) (vs : List ℕ) → flag_listed flag ≡ true → part_obeys flag vs ≡ part_fits flag vs
 taken flag vs listed = go (eqb flag 0) (eqb flag 1) refl refl listed
   where
     go : (b₀ b₁ : Bool) → eqb flag 0 ≡ b₀ → eqb flag 1 ≡ b₁ → (b₀ || b₁) ≡ true → cond b₀ (all_zero (take 6 vs)) (ok cookie_value_codec vs) ≡ ((not b₀ || all_zero (take 6 vs)) && (not b₁ || ok cookie_value_codec vs))

@@ -22,7 +22,7 @@ use Rattle.records.specs.declared.cookie_value.FenceCookieValue.{FenceCookieValu
 use Rattle.records.specs.CookieValue.{cookie_value_codec}
 use Rattle.inspection.specs.declared.FenceInspection.{FenceInspection}
 use Rattle.inspection.specs.Inspected.{flag_listed, part_of}
-use Rattle.inspection.specs.Inner.Steps.{part_taken, part_codec}
+use Rattle.inspection.specs.Inner.Steps.{part_obeys, part_codec}
 use Rattle.inspection.specs.Inspection.{inspection_mark, inspection, front_tests, inspection_codec}
 use Rattle.inspection.proofs.PartLaws.{part_fits, taken}
 use Rattle.inspection.proofs.InspectionLaws.{from_tail, from_part, from_mutation, from_current, ruled, holds, fails}
@@ -54,8 +54,8 @@ module _ (s : List ℕ) {head : Head} (got : head_numbers head ≡ fields_at hea
     -- the entry's rule under the flag that was read is the rule's
     entry-fits : ok (part_codec head.byte) entry_numbers ≡ part_fits (get_or numbers 2 0) (drop 10 numbers)
     entry-fits =
-        and-true (part_taken head.byte entry_numbers)
-        ∙ ap (λ f. part_taken f entry_numbers) (ap (λ ns. get_or ns 2 0) got)
+        and-true (part_obeys head.byte entry_numbers)
+        ∙ ap (λ f. part_obeys f entry_numbers) (ap (λ ns. get_or ns 2 0) got)
         ∙ taken (get_or numbers 2 0) entry_numbers listed
 
     pub current-refused : {r : Result FenceInspection Refusal} (e : Refusal) → r ≡ Err e → Builds current_codec (fields_at current_codec.layout s 8) (Err e) → Builds inspection_codec numbers r

@@ -43,3 +43,6 @@ encode-determined κs a x y u v = as-encoded x y u v refl refl
 
 pub blank-determined : Determined inspection-record.blank.Kinds.ps inspection-record.blank.Kinds.r inspection-record.blank.Reads.Learnt
 blank-determined κs a x y u v = as-told
+
+pub if-sound-determined : Determined inspection-record.if_sound.Kinds.ps inspection-record.if_sound.Kinds.r inspection-record.if_sound.Reads.Learnt
+if-sound-determined κs a x y u v = as-made x y

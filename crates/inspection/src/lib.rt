@@ -50,16 +50,12 @@ impl FenceInspection {
     ) -> Result<FenceInspection, Refusal>
         ensures { Makes inspection_codec (inspection current mutation entry) result }
     {
-        let value = FenceInspection {
+        FenceInspection {
             current,
             mutation,
             entry,
-        };
-        if value.is_sound() {
-            Ok(value)
-        } else {
-            Err(Refusal::BrokenRule)
         }
+        .if_sound()
     }
 
     // The current record.

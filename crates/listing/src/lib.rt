@@ -40,6 +40,7 @@ fn put_lines(out: &mut [u8], input: &[u8], table: &mut [u8]) -> Listed
     let mut cursor = bundle::frames::start(input.len());
     let mut ordinal: u64 = 0;
     let mut to = 0;
+    // Nothing is counted: each turn goes on from where the one before stopped, and there are two ends.
     loop {
         match bundle::frames::next_packet(input, table, cursor) {
             Next::Packet(after, len) => {

@@ -49,24 +49,9 @@ unfolding le octets_at
 le-past s at zero h = refl
 le-past s at (suc n) h = rw (get_or-eq_default s 0 h, le-past s (at + 1) n (omega arith))
 
-le-zero : le (0 ∷ []) ≡ 0
-unfolding le
-le-zero = refl
-
 pub pow_pos : (n : ℕ) → 0 < 256 ^ n
 pow_pos zero = omega arith
 pow_pos (suc n) = rw pow-suc (let h : 0 < 256 ^ n = pow_pos n in omega arith)
-
-pub be-past : (s : List ℕ) (at n : ℕ) → length s ≤ at → be (octets_at s at n) ≡ 0
-unfolding be octets_at le
-be-past s at zero h = refl
-be-past s at (suc n) h =
-    let e : le (reverse (octets_at s (at + 1) n)) ≡ 0 = be-past s (at + 1) n (omega arith) in
-    rw (get_or-eq_default s 0 h, reverse-cons, le-append, e, le-zero) (omega arith)
-
-pub be-one : (s : List ℕ) (at : ℕ) → be (octets_at s at 1) ≡ le (octets_at s at 1)
-unfolding be octets_at
-be-one s at = refl
 
 -- n octets spell a number below 256 ^ n
 pub le_below : (s : List ℕ) → Bytes s → le s < 256 ^ length s
@@ -133,14 +118,6 @@ unfolding put
 length-put d at [] = refl
 length-put d at (b ∷ bs) = length-put (set d at b) (at + 1) bs ∙ length-set d at b
 
--- of some octets the first is put, and then the rest
-pub put_first : (d : List ℕ) (at n v : ℕ) → (n ≡ 0 → ⊥) → put d at (le_bytes n v) ≡ put (set d at (v % 256)) (at + 1) (le_bytes (n - 1) (v / 256))
-unfolding put le_bytes
-put_first d at zero v h = absurd (h refl)
-put_first d at (suc n) v h =
-    let e : n ≡ suc n - 1 = omega arith in
-    ap (λ (k : ℕ). put (set d at (v % 256)) (at + 1) (le_bytes k (v / 256))) e
-
 -- one law for the writers: a number of n + m bytes is put as one of n and one of m
 pub put-parts : (d : List ℕ) (at n m v : ℕ) → put d at (le_bytes (n + m) v) ≡ put (put d at (le_bytes n (v % 256 ^ n))) (at + n) (le_bytes m (v / 256 ^ n))
 put-parts d at n m v = rw (le_bytes-append, put-append, length-le_bytes, le_bytes-mod)
@@ -148,10 +125,6 @@ put-parts d at n m v = rw (le_bytes-append, put-append, length-le_bytes, le_byte
 pub put-parts-be : (d : List ℕ) (at n m v : ℕ) → put d at (be_bytes (n + m) v) ≡ put (put d at (be_bytes n (v / 256 ^ m))) (at + n) (be_bytes m (v % 256 ^ m))
 unfolding be_bytes
 put-parts-be d at n m v = rw (add_comm n m, le_bytes-append, reverse-append, put-append, length-reverse, length-le_bytes, le_bytes-mod)
-
-pub be_bytes-one : (v : ℕ) → be_bytes 1 v ≡ le_bytes 1 v
-unfolding be_bytes le_bytes
-be_bytes-one v = refl
 
 put-sets : (d : List ℕ) (at : ℕ) (bs : List ℕ) → put d at bs ≡ sets d at bs
 unfolding put
@@ -237,39 +210,10 @@ octets-first s at (suc n) h =
     let e : n ≡ suc n - 1 = omega arith in
     ap (λ (k : ℕ). get_or s at 0 ∷ octets_at s (at + 1) k) e
 
--- so of some octets the first is read, and then the rest
-pub le-first : (s : List ℕ) (at n : ℕ) → (n ≡ 0 → ⊥) → le (octets_at s at n) ≡ le (octets_at s at 1) + 256 * le (octets_at s (at + 1) (n - 1))
-le-first s at n h =
-    let e : n ≡ 1 + (n - 1) = omega arith in
-    ap (λ (k : ℕ). le (octets_at s at k)) e ∙ le_parts s at 1 (n - 1)
-
--- at most seven octets spell a number that has room for one octet more in eight
-pub le-few : (s : List ℕ) (at n : ℕ) → Bytes s → n ≤ 7 → le (octets_at s at n) < 256 ^ 7
-le-few s at n h few =
-    let e : n + (7 - n) ≡ 7 = omega arith in
-    let all : le (octets_at s at 7) ≡ le (octets_at s at n) + 256 ^ n * le (octets_at s (at + n) (7 - n)) =
-    ap (λ (k : ℕ). le (octets_at s at k)) (sym e) ∙ le_parts s at n (7 - n) in
-    let below : le (octets_at s at 7) < 256 ^ 7 = rw length-octets at (le_below (octets_at s at 7) (Bytes-octets s at 7 h)) in
-    omega (arith, all, below)
-
--- and four octets one that has room in four
-pub le_four : (s : List ℕ) (at : ℕ) → Bytes s → le (octets_at s at 4) < 256 ^ 4
-le_four s at h = rw length-octets at (le_below (octets_at s at 4) (Bytes-octets s at 4 h))
-
--- of some octets the first is asked, and then the rest
-pub zero-first : (s : List ℕ) (at n : ℕ) → (n ≡ 0 → ⊥) → all_zero (octets_at s at n) ≡ (eqb (get_or s at 0) 0 && all_zero (octets_at s (at + 1) (n - 1)))
-unfolding all_zero
-zero-first s at n h = rw (octets-first s at n h)
-
 pub same_first : (a b : List ℕ) (i j n : ℕ) → (n ≡ 0 → ⊥) →
     same_octets (octets_at a i n) (octets_at b j n) ≡ (eqb (get_or a i 0) (get_or b j 0) && same_octets (octets_at a (i + 1) (n - 1)) (octets_at b (j + 1) (n - 1)))
 unfolding same_octets
 same_first a b i j n h = rw (octets-first a i n h, octets-first b j n h)
-
-pub zero-past : (s : List ℕ) (at n : ℕ) → length s ≤ at → all_zero (octets_at s at n) ≡ true
-unfolding octets_at all_zero
-zero-past s at zero h = refl
-zero-past s at (suc n) h = simp (get_or-eq_default s 0 h, zero-past s (at + 1) n (omega arith))
 
 -- n + m octets are zero where the first n are and the other m
 pub zero-parts : (s : List ℕ) (at n m : ℕ) → all_zero (octets_at s at (n + m)) ≡ (all_zero (octets_at s at n) && all_zero (octets_at s (at + n) m))
@@ -285,29 +229,11 @@ unfolding le all_zero
 zero_number [] = refl
 zero_number (b ∷ s) = digit-zero b (le s) ∙ ap (λ r. eqb b 0 && r) (zero_number s)
 
--- so of eight octets or more the first eight are asked by their number, and then the rest
-pub zero-eight : (s : List ℕ) (at n : ℕ) → 8 ≤ n → all_zero (octets_at s at n) ≡ (eqb (le (octets_at s at 8)) 0 && all_zero (octets_at s (at + 8) (n - 8)))
-zero-eight s at n h =
-    let e : n ≡ 8 + (n - 8) = omega arith in
-    ap (λ (k : ℕ). all_zero (octets_at s at k)) e ∙ zero-parts s at 8 (n - 8) ∙ ap (λ r. r && all_zero (octets_at s (at + 8) (n - 8))) (sym (zero_number (octets_at s at 8)))
-
 pub eqb-sym : (a b : ℕ) (p q : Bool) → eqb a b ≡ p → eqb b a ≡ q → p ≡ q
 eqb-sym a b true true e f = refl
 eqb-sym a b true false e f = sym (eq-eqb b a (sym (eqb-true a b e))) ∙ f
 eqb-sym a b false true e f = sym e ∙ eq-eqb a b (sym (eqb-true b a f))
 eqb-sym a b false false e f = refl
-
--- past the end of one list, octets are the same as those of the other where those are zero
-pub same-past-left : (a b : List ℕ) (i j n : ℕ) → length a ≤ i → same_octets (octets_at a i n) (octets_at b j n) ≡ all_zero (octets_at b j n)
-unfolding octets_at same_octets all_zero
-same-past-left a b i j zero h = refl
-same-past-left a b i j (suc n) h =
-    simp (get_or-eq_default a 0 h, same-past-left a b (i + 1) (j + 1) n (omega arith), eqb-sym 0 (get_or b j 0) _ _ refl refl)
-
-pub same-past-right : (a b : List ℕ) (i j n : ℕ) → length b ≤ j → same_octets (octets_at a i n) (octets_at b j n) ≡ all_zero (octets_at a i n)
-unfolding octets_at same_octets all_zero
-same-past-right a b i j zero h = refl
-same-past-right a b i j (suc n) h = simp (get_or-eq_default b 0 h, same-past-right a b (i + 1) (j + 1) n (omega arith))
 
 -- ---- a part of a list
 

@@ -27,8 +27,8 @@ pub fn put_u8(d: &mut [u8], at: usize, v: u8)
     }
 }
 
-// ---- numbers. One whose octets all lie inside is read and written with one test of the length; the compiler makes one load or store of
-// it. Of one that the end cuts the octets inside are copied; that is never compiled into a caller, so that callers stay small.
+// ---- numbers. One of four or eight octets that all lie inside is read and written with one test of the length; the compiler makes one
+// load or store of it. What is left to do for one that the end cuts is never compiled into a caller, so that callers stay small.
 
 // Whether n octets from a place on lie inside a slice of so many.
 fn lies_inside(len: usize, at: usize, n: usize) -> bool

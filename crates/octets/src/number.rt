@@ -11,6 +11,7 @@ pub trait Number: Copy + Drop {
     // how many octets it has
     ghost width: { ℕ };
 
+    // the number itself
     ghost value: { Self → ℕ };
 
     // How many octets it has.
@@ -84,8 +85,10 @@ impl Number for u8 {
 pub trait Wide: Copy + Drop {
     type Half: Number;
 
+    // the number itself
     ghost number: { Self → ℕ };
 
+    // The number of two halves.
     fn join(low: Self::Half, high: Self::Half) -> Self
         ensures { number result ≡ Self.Half.value low + 256 ^ Self.Half.width * Self.Half.value high };
 
@@ -191,6 +194,7 @@ impl<W: Wide> Number for W {
 
     #[tactic(auto, using(crate::proofs::OctetsLaws::le_parts, crate::proofs::PartsLaws::past_halves))]
     fn get(s: &[u8], at: usize) -> W {
+        // Of two octets a test of each costs no more.
         let width = W::Half::width();
         if 1 < width && lies_inside(s.len(), at, width + width) {
             return W::whole(s, at);
@@ -203,7 +207,7 @@ impl<W: Wide> Number for W {
         W::join(low, high)
     }
 
-    // Never compiled into its callers, so that those stay small enough to be compiled into theirs.
+    // Never compiled into its callers, which stay small enough to be compiled into theirs.
     #[inline(never)]
     fn half(s: &[u8], at: usize) -> W {
         W::get(s, at)

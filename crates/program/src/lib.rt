@@ -240,6 +240,7 @@ pub fn fill<'a, R: Read>(from: &mut R, space: &'a mut [u8]) -> Result<&'a [u8], 
     ensures failed { IfErr result (λ error. length error.before.now ≤ length space.old) }
 {
     let mut at = 0;
+    // Nothing is counted: a read gives as many bytes as there are.
     while at < space.len() {
         match from.read(&mut space[at..]) {
             Ok(0) => break,

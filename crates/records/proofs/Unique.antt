@@ -6,7 +6,7 @@ use Rattle.octets.specs.Words.{ℕ, ◌≡◌, true}
 use Rattle.octets.proofs.Tools.{refl, sym, ap, ◌∙◌, true≢false}
 use Rattle.octets.specs.Determined.{Determined}
 use Rattle.octets.proofs.UniqueLaws.{as-told, as-numbered}
-use Rattle.codec.proofs.UniqueLaws.{as-built, as-decoded, as-encoded, as-put}
+use Rattle.codec.proofs.UniqueLaws.{as-made, as-built, as-decoded, as-encoded, as-put}
 use Rattle.records.specs.declared.entry.FenceEntryState.{FenceEntryState}
 use Rattle.records.specs.declared.entry.UnknownControl.{UnknownControl}
 use Rattle.records.specs.declared.entry.EntryFields.{EntryFields}
@@ -210,3 +210,12 @@ entry-blank-determined κs a x y u v = as-told
 
 pub value-blank-determined : Determined value-record.blank.Kinds.ps value-record.blank.Kinds.r value-record.blank.Reads.Learnt
 value-blank-determined κs a x y u v = as-told
+
+pub key-if-sound-determined : Determined key-record.if_sound.Kinds.ps key-record.if_sound.Kinds.r key-record.if_sound.Reads.Learnt
+key-if-sound-determined κs a x y u v = as-made x y
+
+pub entry-if-sound-determined : Determined entry-record.if_sound.Kinds.ps entry-record.if_sound.Kinds.r entry-record.if_sound.Reads.Learnt
+entry-if-sound-determined κs a x y u v = as-made x y
+
+pub value-if-sound-determined : Determined value-record.if_sound.Kinds.ps value-record.if_sound.Kinds.r value-record.if_sound.Reads.Learnt
+value-if-sound-determined κs a x y u v = as-made x y

@@ -1,6 +1,6 @@
 // The state of one registered socket, 32 bytes.
 ghost use Rattle.std.specs.Prelude.{refl, ◌≡◌, ◌&&◌, [], ◌∷◌};
-ghost use Rattle.codec.specs.Answers.{Builds, Makes};
+ghost use Rattle.codec.specs.Answers.{Builds};
 ghost use Rattle.codec.specs.Words.{put, ok, laid};
 ghost use Rattle.codec.specs.declared.Refusal.TheVariants.{BrokenRule};
 ghost use Rattle.records.specs.Entry.{control_of, Names, odd_token, deadline_fits, epoch_fits, entry_codec, entry_numbers, closed, terminal, reclaiming};
@@ -240,17 +240,6 @@ impl FenceEntry {
             control_epoch,
         }
         .if_sound()
-    }
-
-    // The record itself, or 2 where it is unsound.
-    fn if_sound(self) -> Result<FenceEntry, Refusal>
-        ensures { Makes entry_codec self result }
-    {
-        if self.is_sound() {
-            Ok(self)
-        } else {
-            Err(Refusal::BrokenRule)
-        }
     }
 
     // The state.

@@ -21,15 +21,11 @@ impl FenceCookieKey {
     ) -> Result<FenceCookieKey, Refusal>
         ensures { Builds key_codec (socket_cookie.0 ∷ durable_fence_token.0 ∷ []) result }
     {
-        let value = FenceCookieKey {
+        FenceCookieKey {
             socket_cookie,
             durable_fence_token,
-        };
-        if value.is_sound() {
-            Ok(value)
-        } else {
-            Err(Refusal::BrokenRule)
         }
+        .if_sound()
     }
 
     // The cookie of the socket.

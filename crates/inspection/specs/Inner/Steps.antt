@@ -7,13 +7,13 @@ use Rattle.records.specs.declared.cookie_value.FenceCookieValue.{FenceCookieValu
 use Rattle.records.specs.CookieValue.{cookie_value_codec}
 use Rattle.inspection.specs.Inspected.{part_fields, part_of}
 
-abbrev pub part_taken : ℕ → List ℕ → Bool
-part_taken flag vs = cond (eqb flag 0) (all_zero (take 6 vs)) (ok cookie_value_codec vs)
+abbrev pub part_obeys : ℕ → List ℕ → Bool
+part_obeys flag vs = cond (eqb flag 0) (all_zero (take 6 vs)) (ok cookie_value_codec vs)
 
 abbrev pub part_codec : ℕ → Codec (Option FenceCookieValue)
 part_codec flag = record {
   layout = cookie_value_codec.layout;
-  tests = test 0 (part_taken flag) ∷ [];
+  tests = test 0 (part_obeys flag) ∷ [];
   of = part_of flag;
   fields = part_fields;
   blank = None;
