@@ -1,6 +1,6 @@
 -- The inner entry: its numbers tell it, accepted numbers are back from it, and its reader's answer is the rule's, by the two flags. And of
 -- any part of a record: what is put into a slice from a place on stands in the whole. Assumes nothing.
-use Rattle.octets.specs.Words.{ℕ, zero, suc, ◌+◌, ◌-◌, ◌≤◌, ◌≡◌, Bool, true, false, cond, not, ◌&&◌, ◌||◌, List, [], ◌∷◌, ◌++◌, map, length, take, drop, replicate, set, eqb, leb}
+use Rattle.octets.specs.Words.{get_or, ℕ, zero, suc, ◌+◌, ◌-◌, ◌≤◌, ◌≡◌, Bool, true, false, cond, not, ◌&&◌, ◌||◌, List, [], ◌∷◌, ◌++◌, map, length, take, drop, replicate, set, eqb, leb}
 use Rattle.std.specs.Prelude.{min, Option, None, Some}
 use Rattle.octets.specs.Octets.{octets_at, put, all_zero}
 use Rattle.octets.proofs.Tools.{refl, sym, ap, ◌∙◌, true≢false, arith, eqb-true, leb-true, leb-false}
@@ -83,6 +83,10 @@ value-back v =
 pub part-forth : (e : Option FenceCookieValue) → part_of (present_flag e) (part_fields e) ≡ e
 part-forth None = refl
 part-forth (Some v) = ap Some (value-back v)
+
+-- so no two inner entries have the same numbers
+pub part-injective : (a b : Option FenceCookieValue) → part_numbers a ≡ part_numbers b → a ≡ b
+part-injective a b h = sym (part-forth a) ∙ ap (λ (ns : List ℕ). part_of (get_or ns 0 0) (drop 1 ns)) h ∙ part-forth b
 
 zeros : (vs : List ℕ) → all_zero vs ≡ true → replicate (length vs) 0 ≡ vs
 unfolding all_zero
