@@ -69,6 +69,7 @@ fn frame_of(kind: u16, len: usize) -> Frame
 }
 
 // The frame at an offset. It lies inside.
+#[tactic(auto, unfolding(crate::specs::Frames::frame_at))]
 fn frame_at(input: &[u8], at: usize) -> Frame
     ensures found { frame_is result ≡ frame_at input.now at }
     ensures inside { size (frame_is result) ≤ length input.now - at }

@@ -70,6 +70,7 @@ fn put_lines(out: &mut [u8], input: &[u8], table: &mut [u8]) -> Listed
 }
 
 // Writes the listing so far as `out` reaches, and answers how long all of it is.
+#[tactic(auto, unfolding(crate::specs::Listing::listing, crate::specs::Listing::whole))]
 fn put_listing(out: &mut [u8], input: &[u8], table: &mut [u8; MAX_BUNDLE]) -> Listed
     ensures wrote { Wrote out.old 0 (listing input.now) out.new result.length }
     ensures whole_value { result.whole ≡ whole input.now }
