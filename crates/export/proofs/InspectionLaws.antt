@@ -20,7 +20,7 @@ together true false e = refl
 together false m e = refl
 
 module _ (f : InspectionFields) where
-  abbrev parts : Bool
+  abbrev pub parts : Bool
   parts = ok current_codec (current_numbers f.current) && ok mutation_codec (mutation_codec.fields f.mutation)
 
   pub without_entry : f.flag ≡ 0 → ok inspection_codec (inspection_numbers f) ≡ (parts && all_zero (cookie_value_numbers f.value))

@@ -77,12 +77,13 @@ impl Image for InspectionFields {
 
     #[tactic(auto, using(crate::proofs::InspectionLaws::without_entry, crate::proofs::InspectionLaws::with_entry, crate::proofs::InspectionLaws::unlisted))]
     fn obey_rule(self) -> bool {
-        let parts = self.current.obey_rule() & self.mutation.is_sound();
-        match self.flag {
-            0 => parts & (self.value == NO_VALUE),
-            1 => parts & self.value.obey_rule(),
-            _ => false,
-        }
+        self.current.obey_rule()
+            && self.mutation.is_sound()
+            && match self.flag {
+                0 => self.value == NO_VALUE,
+                1 => self.value.obey_rule(),
+                _ => false,
+            }
     }
 
     fn write(self, out: &mut [u8]) {
