@@ -1,5 +1,6 @@
 // The configuration for programs in other languages. Its fields: family, port, capacity, root cgroup, and the sixteen bytes of the address.
-ghost use Rattle.std.specs.Prelude.{refl};
+ghost use Rattle.std.specs.Prelude.{refl, ◌≡◌};
+ghost use Rattle.octets.specs.Octets.{octets_at};
 ghost use Rattle.config.specs.Config.{config_codec};
 ghost use Rattle.export.specs.View.{ViewDecoded, ViewEncoded};
 ghost use Rattle.export.specs.Views.{config_view};
@@ -9,6 +10,18 @@ use codec::Record;
 use config::FenceConfig;
 use endpoint::ProtectedEndpoint;
 use units::RootCgroupId;
+
+// The sixteen octets of the address, read as two numbers of eight: read by `octets::array_at`, the compiler moves them in four pieces.
+fn address_at(image: &[u8]) -> [u8; 16]
+    ensures { result ≡ octets_at image.now 32 16 }
+{
+    let first = octets::get_le::<u64>(image, 32);
+    let second = octets::get_le::<u64>(image, 40);
+    let mut address = [0u8; 16];
+    octets::put_le::<u64>(&mut address, 0, first);
+    octets::put_le::<u64>(&mut address, 8, second);
+    address
+}
 
 impl Image for FenceConfig {
     type Of = FenceConfig;
@@ -28,7 +41,7 @@ impl Image for FenceConfig {
     fn of_image(image: &[u8]) -> Option<FenceConfig> {
         let endpoint = ProtectedEndpoint {
             family: u8::try_from(octets::get_le::<u64>(image, 0)).ok()?,
-            address: octets::array_at::<16>(image, 32),
+            address: address_at(image),
             port: u16::try_from(octets::get_le::<u64>(image, 8)).ok()?,
         };
         Some(FenceConfig {

@@ -1,6 +1,6 @@
 -- `of_image`: each number that fits its place is that number there; the address's octets spell its number. Assumes nothing.
-use Rattle.octets.specs.Words.{ℕ, ◌≡◌, ◌<◌, true, List, ◌∷◌, []}
-use Rattle.octets.proofs.Tools.{refl, ap, ◌∙◌, arith, lt-ltb, rules}
+use Rattle.octets.specs.Words.{ℕ, ◌≡◌, ◌<◌, true, List}
+use Rattle.octets.proofs.Tools.{refl, lt-ltb, rules}
 use Rattle.octets.proofs.OctetsLaws.{octets-whole, length-octets}
 use Rattle.octets.specs.Octets.{Bytes, octets_at, le}
 use Rattle.export.specs.View.{numbers, fitting}
@@ -19,5 +19,5 @@ returns c =
     let port : c.in_ok-ok-2.field-0 ≡ le (octets_at f 8 8) = search rules in
     let capacity : c.in_ok-ok-3.field-0 ≡ le (octets_at f 16 8) = search rules in (
       fits f (λ i. (c.type_inv.image i).fits) family port capacity (search rules) (search rules) (search rules),
-      rw (family, port, capacity, c.get_le-3.ensures, c.array_at.ensures, octets-whole (octets_at f 32 16) 16 (length-octets f 32 16)) refl,
+      rw (family, port, capacity, c.get_le-3.ensures, c.address_at.ensures, octets-whole (octets_at f 32 16) 16 (length-octets f 32 16)) refl,
     )
