@@ -29,7 +29,7 @@ pub(crate) fn put_key(value: FenceCookieKey, out: &mut Answers) {
     out.put(&value.durable_fence_token().0.to_le_bytes());
 }
 
-// The states in the order in which 01 lists them.
+// The number of a state in the stream of answers, in the order in which 01 lists them: nothing else has these numbers.
 fn state_number(state: FenceEntryState) -> u8 {
     match state {
         FenceEntryState::InitialClosed => 0,

@@ -63,7 +63,7 @@ impl Call<'_> {
     // The call, with a table.
     fn judge(&self, table: &[u8], reading: &mut [u8]) -> u32 {
         let head = self.head;
-        let address = parts::array::<16>(head, 11);
+        let address = octets::array_at::<16>(head, 11);
         export_gate::threadwicket_gate_raw(
             self.config,
             octets::get_le::<u64>(head, 2),

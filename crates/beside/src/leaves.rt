@@ -30,7 +30,7 @@ fn put_made(made: Result<ProtectedEndpoint, Refusal>, out: &mut Answers) {
 // Query 2: an IPv4 address and a port.
 pub(crate) fn ipv4(body: &[u8], out: &mut Answers) -> Result<(), QueryError> {
     let body = parts::exactly::<6>(body)?;
-    let address = parts::array::<4>(body, 0);
+    let address = octets::array_at::<4>(body, 0);
     put_made(
         ProtectedEndpoint::ipv4(address, octets::get_le::<u16>(body, 4)),
         out,
@@ -41,7 +41,7 @@ pub(crate) fn ipv4(body: &[u8], out: &mut Answers) -> Result<(), QueryError> {
 // Query 3: an IPv6 address and a port.
 pub(crate) fn ipv6(body: &[u8], out: &mut Answers) -> Result<(), QueryError> {
     let body = parts::exactly::<18>(body)?;
-    let address = parts::array::<16>(body, 0);
+    let address = octets::array_at::<16>(body, 0);
     put_made(
         ProtectedEndpoint::ipv6(address, octets::get_le::<u16>(body, 16)),
         out,
@@ -53,7 +53,7 @@ pub(crate) fn ipv6(body: &[u8], out: &mut Answers) -> Result<(), QueryError> {
 pub(crate) fn matches_ipv4(body: &[u8], out: &mut Answers) -> Result<(), QueryError> {
     let body = parts::exactly::<25>(body)?;
     let endpoint = parts::endpoint_of(body);
-    let address = parts::array::<4>(body, 19);
+    let address = octets::array_at::<4>(body, 19);
     let answer = endpoint.matches_ipv4(address, octets::get_le::<u16>(body, 23));
     out.put(&[answer as u8]);
     Ok(())
@@ -63,7 +63,7 @@ pub(crate) fn matches_ipv4(body: &[u8], out: &mut Answers) -> Result<(), QueryEr
 pub(crate) fn matches_ipv6(body: &[u8], out: &mut Answers) -> Result<(), QueryError> {
     let body = parts::exactly::<37>(body)?;
     let endpoint = parts::endpoint_of(body);
-    let address = parts::array::<16>(body, 19);
+    let address = octets::array_at::<16>(body, 19);
     let answer = endpoint.matches_ipv6(address, octets::get_le::<u16>(body, 35));
     out.put(&[answer as u8]);
     Ok(())

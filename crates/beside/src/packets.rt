@@ -6,7 +6,7 @@ use crate::query::QueryError;
 // The call, on the endpoint and the packet.
 pub(crate) fn classify(body: &[u8], reading: &mut [u8]) -> Result<u32, QueryError> {
     let (endpoint, packet) = parts::split_array::<19>(body)?;
-    let address = parts::array::<16>(endpoint, 1);
+    let address = octets::array_at::<16>(endpoint, 1);
     let number = export::threadwicket_classify_raw(
         packet,
         octets::get_u8(endpoint, 0),

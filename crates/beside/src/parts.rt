@@ -1,5 +1,5 @@
 // Parts of bodies.
-ghost use Rattle.std.specs.Prelude.{◌+◌, ◌≤◌, length};
+ghost use Rattle.std.specs.Prelude.{◌≤◌, length};
 
 use crate::query::QueryError;
 use endpoint::ProtectedEndpoint;
@@ -22,22 +22,13 @@ pub(crate) fn split(body: &[u8], n: usize) -> Result<(&[u8], &[u8]), QueryError>
     body.split_at_checked(n).ok_or(QueryError::Unknown)
 }
 
-// The N bytes from a place on.
-pub(crate) fn array<const N: usize>(s: &[u8], at: usize) -> [u8; N]
-    requires { at + N ≤ length s.now }
-{
-    let mut a = [0u8; N];
-    a.copy_from_slice(&s[at..at + N]);
-    a
-}
-
 // An endpoint as a query has it: family, sixteen bytes of address, port.
 pub(crate) fn endpoint_of(body: &[u8]) -> ProtectedEndpoint
     requires { 19 ≤ length body.now }
 {
     ProtectedEndpoint {
         family: octets::get_u8(body, 0),
-        address: array::<16>(body, 1),
+        address: octets::array_at::<16>(body, 1),
         port: octets::get_le::<u16>(body, 17),
     }
 }

@@ -7,6 +7,7 @@ use records::entry::{FenceEntry, FenceEntryState};
 use units::{BootNs, ControlEpoch, DurableFenceToken, SocketCookie};
 use verdict::{FenceAuthoritySnapshot, PacketFenceContext};
 
+// The state of a number of the stream of queries, which has no other numbers for it: there is no plainer form.
 fn state_of(number: u8) -> FenceEntryState {
     match number {
         0 => FenceEntryState::InitialClosed,

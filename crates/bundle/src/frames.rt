@@ -53,7 +53,7 @@ pub enum Next {
     Bad(Cursor),
 }
 
-// The frame of a kind and a body length.
+// The frame of a kind and a body length. The kind is the number that the bytes have; what it stands for is the answer.
 #[tactic(auto, unfolding(crate::specs::Frames::frame_of, crate::specs::Frames::exactly))]
 fn frame_of(kind: u16, len: usize) -> Frame
     ensures { frame_is result ≡ frame_of kind len }

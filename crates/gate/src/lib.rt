@@ -19,7 +19,8 @@ use verdict::FenceVerdict;
 // An address of either family, in network order.
 pub type SocketAddress = [u8; 16];
 
-// The socket that a packet leaves from. An IPv4 address stands in the first four bytes of `address`.
+// The socket that a packet leaves from. An IPv4 address stands in the first four bytes of `address`. The family is a number and no enum:
+// hooks give every value of it, and each has an answer.
 #[derive(Clone, Copy, PartialEq, Eq)]
 pub struct Socket {
     pub family: u8,
@@ -76,7 +77,7 @@ struct Ruling {
 
 // ---- what the rules ask
 
-// The addresses of a family are compared where they stand, as numbers.
+// The addresses of a family are compared where they stand, as one number or two: octet by octet, the call takes longer.
 #[tactic(auto, using(crate::proofs::AddressLaws::same_four))]
 fn same_address(family: u8, a: &[u8], b: &[u8]) -> bool
     ensures { result ≡ same_address family a.now b.now }

@@ -17,7 +17,7 @@ pub const MAX_BUNDLE: usize = 65_536;
 pub const MAX_LISTING: usize = 273_060;
 
 // A listing that was written: how long it is, and whether it is of a whole bundle: one that is not too long, and whose every frame could
-// be read.
+// be read. The answer `whole` is a fact of its own: either way the listing was written, and the definition `Lists` gives both.
 #[derive(Clone, Copy)]
 pub struct Listed {
     pub length: usize,
@@ -40,7 +40,7 @@ fn put_lines(out: &mut [u8], input: &[u8], table: &mut [u8]) -> Listed
     let mut cursor = bundle::frames::start(input.len());
     let mut ordinal: u64 = 0;
     let mut to = 0;
-    // Nothing is counted: each turn goes on from where the one before stopped, and there are two ends.
+    // Each turn goes on from where the one before stopped, and there are three outcomes: a packet, and two ends.
     loop {
         match bundle::frames::next_packet(input, table, cursor) {
             Next::Packet(after, len) => {

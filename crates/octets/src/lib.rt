@@ -158,7 +158,8 @@ pub fn is_zero_run(s: &[u8], at: usize, n: usize) -> bool
     words.iter().all(|word| get_le::<u64>(&word[..], 0) == 0) & are_zero(rest)
 }
 
-// Whether the n octets of a from i on equal those of b from j on.
+// Whether the n octets of a from i on equal those of b from j on. Places and slices stay apart: it speaks of octets past the ends too,
+// which no two parts of slices have.
 pub fn same(a: &[u8], i: usize, b: &[u8], j: usize, n: usize) -> bool
     ensures { result ≡ same_octets (octets_at a.now i n) (octets_at b.now j n) }
 {

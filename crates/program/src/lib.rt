@@ -70,7 +70,7 @@ impl Outcome {
         }
     }
 
-    // An input that was answered, whole or only to a fault.
+    // An input that was answered, whole or only to a fault. It has a name of its own and is no `From<bool>`: callers know it by that name.
     pub fn of_whole(whole: bool) -> Outcome
         ensures { result ≡ of_whole whole }
     {
@@ -117,10 +117,7 @@ fn argument_is<R: Env>(rt: &R, i: usize, text: &[u8]) -> bool {
 // Whether there is an argument i. One that is longer than the space is there too.
 fn is_given<R: Env>(rt: &R, i: usize) -> bool {
     let mut space = [0u8; 32];
-    match rt.arg(i, &mut space) {
-        Ok(_) | Err(FillError::TooLong) => true,
-        Err(FillError::NotPresent) => false,
-    }
+    !matches!(rt.arg(i, &mut space), Err(FillError::NotPresent))
 }
 
 // Whether the first argument asks for the status. It is for whoever starts a program and wants to hand a status on.

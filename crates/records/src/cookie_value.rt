@@ -45,18 +45,14 @@ impl CookieValueFields {
         if self.zeros != 0 {
             return Err(Refusal::BrokenRule);
         }
-        let value = FenceCookieValue {
+        FenceCookieValue {
             state: FenceEntryState::try_from(self.control)?,
             socket_cookie: self.socket_cookie,
             durable_fence_token: self.durable_fence_token,
             deadline_boot_ns: self.deadline_boot_ns,
             control_epoch: self.control_epoch,
-        };
-        if value.is_sound() {
-            Ok(value)
-        } else {
-            Err(Refusal::BrokenRule)
         }
+        .if_sound()
     }
 
     // The numbers put at the start of a slice, each in its field; octets past the end are dropped. It does not ask for the rule.

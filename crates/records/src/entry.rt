@@ -151,17 +151,13 @@ impl EntryFields {
         if self.zeros != 0 {
             return Err(Refusal::BrokenRule);
         }
-        let value = FenceEntry {
+        FenceEntry {
             state: FenceEntryState::try_from(self.control)?,
             durable_fence_token: self.durable_fence_token,
             deadline_boot_ns: self.deadline_boot_ns,
             control_epoch: self.control_epoch,
-        };
-        if value.is_sound() {
-            Ok(value)
-        } else {
-            Err(Refusal::BrokenRule)
         }
+        .if_sound()
     }
 
     // The numbers put at the start of a slice, each in its field; octets past the end are dropped. It does not ask for the rule.

@@ -30,7 +30,8 @@ fn is_under(bytes: &[u8], key: FenceCookieKey) -> bool
         && octets::get_le::<u64>(bytes, 16) == key.durable_fence_token.0
 }
 
-// From a place after which there is no second whole record: the record there, where it stands under the key; else an empty part.
+// From a place after which there is no second whole record: the record there, where it stands under the key; else an empty part, as
+// the search answers.
 fn find_last(table: &[u8], at: usize, key: FenceCookieKey) -> &[u8]
     requires { (at ≤ length table.now) × (length table.now < at + 80) }
     ensures { FirstFrom at key.socket_cookie.0 key.durable_fence_token.0 table.entry result }

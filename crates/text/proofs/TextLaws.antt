@@ -6,9 +6,8 @@ use Prim.Native.Nat.{min}
 use Rattle.octets.proofs.Tools.{refl, sym, ap, ◌∙◌, arith, ltb-true, ltb-false, leb-true, leb-false, le-ltb}
 use Rattle.octets.proofs.Choices.{pick}
 use mathlib.Core.List.{append_assoc}
-use lib.ListN.{length-append, length-take, drop_of_length-le}
+use lib.ListN.{length-append}
 use lib.Seq.{drop-drop}
-use Rattle.std.proofs.lemmas.List.{take-append-drop}
 use Rattle.octets.specs.Octets.{put}
 use Rattle.octets.proofs.OctetsLaws.{put-append, put-past, put_in, length-put}
 use Rattle.text.specs.Text.{last_place, after, Wrote}
@@ -65,11 +64,7 @@ joins d d' d'' a b at m r fits w v = by (ltb last_place (at + length a)) refl
 pub then : {d d' d'' a b : List ℕ} {at m r : ℕ} → length d ≤ last_place → Wrote d at a d' m → Wrote d' m b d'' r → Wrote d at (a ++ b) d'' r
 then {d} {d'} {d''} {a} {b} {at} {m} {r} fits w v = joins d d' d'' a b at m r fits w v
 
--- ---- a byte, a text that has room, and one of which a part has
-
-put_none : (d : List ℕ) (at : ℕ) → put d at [] ≡ d
-unfolding put
-put_none d at = refl
+-- ---- a byte, and a text that has room
 
 pub byte : (d : List ℕ) (at v : ℕ) → at < last_place → Wrote d at (v ∷ []) (set d at v) (at + 1)
 unfolding put
@@ -90,20 +85,3 @@ pub filled : {d text : List ℕ} (at : ℕ) {r : ℕ} {x : List ℕ} → r ≤ l
 filled {d} {text} at {r} {x} h l e f =
     let sum : r ≡ at + length text = omega arith in
     record { bytes = rw sum (filling d text at (length text) refl (omega arith) f); past = e ∙ saturated at (length text) }
-
--- what is left of a text after n bytes is nothing, or lies past the end
-past-room : (d text : List ℕ) (at n : ℕ) → n ≡ min (length text) (length d - at) → put d (at + n) (drop n text) ≡ d
-past-room d text at n e = by (leb (length text) n) refl
-  where
-    by : (b : Bool) → leb (length text) n ≡ b → put d (at + n) (drop n text) ≡ d
-    by true t = rw (drop_of_length-le text {i = n} (leb-true (length text) n t)) (put_none d (at + n))
-    by false t = put-past d (at + n) (drop n text) (omega (arith, leb-false (length text) n t))
-
--- so the text is put when what has room is
-pub cut : (d text : List ℕ) {x : List ℕ} (at n : ℕ) → at < length d → n ≡ min (length text) (length d - at) → x ≡ take n text →
-    take at d ++ (x ++ drop (at + n - at) (drop at d)) ≡ put d at text
-cut d text at n h e f =
-    let long : length (take n text) ≡ n = rw length-take (omega arith) in
-    let kept : length (put d at (take n text)) ≡ length d = length-put d at (take n text) in
-    filling d (take n text) at n (sym long) (omega arith) f ∙
-    sym (ap (put d at) (sym (take-append-drop n text)) ∙ put-append d at (take n text) (drop n text) ∙ rw long (past-room (put d at (take n text)) text at n (rw kept e)))

@@ -19,16 +19,6 @@ pub fn put_byte(out: &mut [u8], at: usize, byte: u8) -> usize
     at + 1
 }
 
-// A text, so much of it as has room.
-fn put_part(out: &mut [u8], at: usize, text: &[u8])
-    ensures { out.new ≡ put out.old at text.now }
-{
-    if at < out.len() {
-        let room = text.len().min(out.len() - at);
-        out[at..at + room].copy_from_slice(&text[..room]);
-    }
-}
-
 // Some bytes, one after the other.
 pub fn put_text(out: &mut [u8], at: usize, text: &[u8]) -> usize
     ensures { Wrote out.old at text.now out.new result }
@@ -38,7 +28,7 @@ pub fn put_text(out: &mut [u8], at: usize, text: &[u8]) -> usize
     if end < out.len() {
         out[at..end].copy_from_slice(text);
     } else {
-        put_part(out, at, text);
+        octets::put_octets(out, at, text);
     }
     end
 }

@@ -9,4 +9,4 @@ returns-then-end-out c =
     filled _ (omega arith) (omega arith) c.saturating_add-end.ensures c.copy_from_slice.ensures.after
 
 pub returns-else-end-out : goal.returns-else-end-out
-returns-else-end-out c = record { bytes = c.put_part.ensures; past = c.saturating_add-end.ensures ∙ saturated _ _ }
+returns-else-end-out c = record { bytes = c.put_octets.ensures; past = c.saturating_add-end.ensures ∙ saturated _ _ }
