@@ -341,6 +341,8 @@ fn ipv6(packet: &[u8], endpoint: ProtectedEndpoint) -> PacketReading
 }
 
 // The endpoint is of another family than the packet: the packet is not its own, if it is of any family at all.
+// With the two pairs of families as a case of their own in `classify_l3_udp_source`, such a packet takes four instructions fewer, and each
+// other three or four more.
 #[tactic(auto, unfolding(crate::specs::Reading::known))]
 fn foreign(family: u8) -> PacketEndpointDisposition
     ensures { disposition_of result ≡ cond (known family) unrelated indeterminate }
