@@ -57,13 +57,10 @@ fn decoded<R: Record>(bytes: &[u8]) -> R {
 fn put_made<R: Record, const N: usize>(made: Result<R, Refusal>, out: &mut Answers) -> R
     requires { N ≤ 128 }
 {
-    let (number, value) = match made {
-        Ok(value) => (0, value),
-        Err(refusal) => (refusal.number(), R::blank()),
-    };
+    let (number, value) = parts::told(made, R::blank());
     let mut bytes = [0u8; N];
     let _ = value.encode(&mut bytes);
-    out.put(&[(number % 256) as u8]);
+    out.put(&[number]);
     out.put(&bytes);
     decoded(&bytes)
 }

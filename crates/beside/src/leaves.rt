@@ -19,11 +19,8 @@ pub(crate) fn refresh(body: &[u8], out: &mut Answers) -> Result<(), QueryError> 
 
 // Puts what a constructor gave: its number, then the endpoint as a query has it, the all-zero one where it was refused.
 fn put_made(made: Result<ProtectedEndpoint, Refusal>, out: &mut Answers) {
-    let (number, endpoint) = match made {
-        Ok(endpoint) => (0, endpoint),
-        Err(refusal) => (refusal.number(), ProtectedEndpoint::blank()),
-    };
-    out.put(&[(number % 256) as u8]);
+    let (number, endpoint) = parts::told(made, ProtectedEndpoint::blank());
+    out.put(&[number]);
     fields::put_endpoint(endpoint, out);
 }
 

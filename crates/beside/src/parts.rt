@@ -2,6 +2,7 @@
 ghost use Rattle.std.specs.Prelude.{◌≤◌, length};
 
 use crate::query::QueryError;
+use codec::Refusal;
 use endpoint::ProtectedEndpoint;
 
 // A body that has to have N bytes.
@@ -20,6 +21,14 @@ pub(crate) fn split_array<const N: usize>(body: &[u8]) -> Result<(&[u8; N], &[u8
 // The first n bytes of a body, and the rest.
 pub(crate) fn split(body: &[u8], n: usize) -> Result<(&[u8], &[u8]), QueryError> {
     body.split_at_checked(n).ok_or(QueryError::Unknown)
+}
+
+// The number of what was made, and it; where it was refused, what stands for it.
+pub(crate) fn told<V>(made: Result<V, Refusal>, refused: V) -> (u8, V) {
+    match made {
+        Ok(value) => (0, value),
+        Err(refusal) => ((refusal.number() % 256) as u8, refused),
+    }
 }
 
 // An endpoint as a query has it: family, sixteen bytes of address, port.

@@ -22,10 +22,7 @@ pub fn flag(entry: Option<FenceCookieValue>) -> u8
 pub fn is_sound(entry: Option<FenceCookieValue>) -> bool
     ensures { result ≡ sound_part entry }
 {
-    match entry {
-        None => true,
-        Some(value) => value.is_sound(),
-    }
+    entry.is_none_or(|value| value.is_sound())
 }
 
 // The entry at its place in an inspection's bytes, under a flag that is 0 or 1; 2 where there are no zeros under 0.

@@ -40,7 +40,8 @@ fn put_lines(out: &mut [u8], input: &[u8], table: &mut [u8]) -> Listed
     let mut cursor = bundle::frames::start(input.len());
     let mut ordinal: u64 = 0;
     let mut to = 0;
-    // Each turn goes on from where the one before stopped, and there are three outcomes: a packet, and two ends.
+    // Each turn goes on from where the one before stopped, and there are three outcomes: a packet, and two ends. The packets
+    // are no iterator, and their number is counted here: each turn gathers into the caller's table.
     loop {
         match bundle::frames::next_packet(input, table, cursor) {
             Next::Packet(after, len) => {

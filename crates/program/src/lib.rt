@@ -108,10 +108,7 @@ const STATUS: &str = "/proc/self/fd/3";
 // Whether argument i is this text.
 fn argument_is<R: Env>(rt: &R, i: usize, text: &[u8]) -> bool {
     let mut space = [0u8; 32];
-    match rt.arg(i, &mut space) {
-        Ok(n) => &space[..n] == text,
-        Err(_) => false,
-    }
+    matches!(rt.arg(i, &mut space), Ok(n) if &space[..n] == text)
 }
 
 // Whether there is an argument i. One that is longer than the space is there too.
