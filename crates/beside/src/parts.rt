@@ -24,7 +24,7 @@ pub(crate) fn split(body: &[u8], n: usize) -> Result<(&[u8], &[u8]), QueryError>
 }
 
 // The number of what was made, and it; where it was refused, what stands for it.
-pub(crate) fn told<V>(made: Result<V, Refusal>, refused: V) -> (u8, V) {
+pub(crate) fn told<V: Copy>(made: Result<V, Refusal>, refused: V) -> (u8, V) {
     match made {
         Ok(value) => (0, value),
         Err(refusal) => ((refusal.number() % 256) as u8, refused),
