@@ -47,7 +47,11 @@ fn main(rt: HostRuntime) {
         out: rt.stdout(),
         err: rt.stderr(),
     };
-    program::run(&rt, to, ABOUT, |to| answer_stream(&mut rt.stdin(), to));
+    let ended = program::instead_of_work(&rt, to, ABOUT).unwrap_or_else(|| answer_stream(
+        &mut rt.stdin(),
+        to,
+    ));
+    program::tell(&rt, ended);
 }
 
 // Answers the stream, block by block.

@@ -22,7 +22,11 @@ fn main(rt: HostRuntime) {
         out: rt.stdout(),
         err: rt.stderr(),
     };
-    program::run(&rt, to, ABOUT, |to| judge(&mut rt.stdin(), to));
+    let ended = program::instead_of_work(&rt, to, ABOUT).unwrap_or_else(|| judge(
+        &mut rt.stdin(),
+        to,
+    ));
+    program::tell(&rt, ended);
 }
 
 // Reads the bundle and lists it.

@@ -165,32 +165,29 @@ fn open_status<R: Files>(rt: &R) -> io::Result<R::File> {
     }
 }
 
-// Tells the status where it is asked for: its digit, on descriptor 3. Where that is not open, nothing is told.
-fn tell<R: Env + Files>(rt: &R, outcome: Outcome) {
+// What a program that takes no arguments does in place of its work, where it was asked for something else: the text of `--help` or the
+// version is shown, and any other arguments are refused in one line. None where it is to do its work.
+pub fn instead_of_work<R: Env>(
+    rt: &R,
+    to: Streams,
+    about: About,
+) -> Option<Result<Outcome, Stopped>> {
+    match asked(rt) {
+        Request::Work => None,
+        Request::Help => Some(show(to, about.name, about.help)),
+        Request::Version => Some(show_version(to, about.name)),
+        Request::Other => Some(Err(complain(to, about.refusal))),
+    }
+}
+
+// Tells how a program ended, where that is asked for: the digit of its status, on descriptor 3. Where that is not open, nothing is told.
+pub fn tell<R: Env + Files>(rt: &R, ended: Result<Outcome, Stopped>) {
+    let outcome = ended.unwrap_or_else(|stopped| stopped.into());
     if is_status_asked(rt) {
         if let Ok(mut file) = open_status(rt) {
             let _ = file.write_all(&[outcome.digit()]);
         }
     }
-}
-
-// Does the work of a program that takes no arguments, and tells its status. Where it was asked for something else that is done in place of
-// the work: the text of `--help` or the version is shown, and any other arguments are refused in one line.
-pub fn run<R: Env + Files, F: FnOnce(Streams) -> Result<Outcome, Stopped>>(
-    rt: &R,
-    to: Streams,
-    about: About,
-    work: F,
-)
-    requires { F.pre work to }
-{
-    let ended = match asked(rt) {
-        Request::Work => work(to),
-        Request::Help => show(to, about.name, about.help),
-        Request::Version => show_version(to, about.name),
-        Request::Other => Err(complain(to, about.refusal)),
-    };
-    tell(rt, ended.unwrap_or_else(|stopped| stopped.into()));
 }
 
 // ---- reading

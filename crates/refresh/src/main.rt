@@ -185,7 +185,11 @@ fn main(rt: HostRuntime) {
         out: rt.stdout(),
         err: rt.stderr(),
     };
-    program::run(&rt, to, ABOUT, |to| answer_input(&mut rt.stdin(), to));
+    let ended = program::instead_of_work(&rt, to, ABOUT).unwrap_or_else(|| answer_input(
+        &mut rt.stdin(),
+        to,
+    ));
+    program::tell(&rt, ended);
 }
 
 // Reads what has come and answers its lines, until the input ends.
