@@ -1,7 +1,7 @@
 // Queries 32 to 45: the constructors of the seven records. Arguments that are records come as bytes and are decoded first. The answer is
 // the constructor's number (u8), what the encoder writes of the record that was made to an output of zeros of the record's length, and
 // every field of the record that the decoder gives for those bytes, as `fields` lists them.
-ghost use Rattle.std.specs.Prelude.{◌≤◌};
+ghost use Rattle.std.specs.Prelude.{◌+◌, ◌≤◌};
 
 use crate::query::{Constructor, OfCurrent, OfEntry, OfMutation, QueryError};
 use crate::{Answers, fields, parts};
@@ -20,7 +20,9 @@ pub(crate) fn answer(
     constructor: Constructor,
     body: &[u8],
     out: &mut Answers,
-) -> Result<(), QueryError> {
+) -> Result<(), QueryError>
+    ensures { out.new.used ≤ out.old.used + 512 }
+{
     match constructor {
         Constructor::Current(by) => current(by, body, out),
         Constructor::Mutation(by) => mutation(by, body, out),
@@ -56,6 +58,7 @@ fn decoded<R: Record>(bytes: &[u8]) -> R {
 // record that is decoded from that.
 fn put_made<R: Record, const N: usize>(made: Result<R, Refusal>, out: &mut Answers) -> R
     requires { N ≤ 128 }
+    ensures { out.new.used ≤ out.old.used + (1 + N) }
 {
     let (number, value) = parts::told(made, R::blank());
     let mut bytes = [0u8; N];
@@ -66,7 +69,9 @@ fn put_made<R: Record, const N: usize>(made: Result<R, Refusal>, out: &mut Answe
 }
 
 // Query 32: nothing. 33 and 34: a token. 35: a token and a cookie.
-fn current(by: OfCurrent, body: &[u8], out: &mut Answers) -> Result<(), QueryError> {
+fn current(by: OfCurrent, body: &[u8], out: &mut Answers) -> Result<(), QueryError>
+    ensures { out.new.used ≤ out.old.used + 512 }
+{
     let made = match by {
         OfCurrent::Initial => {
             let [] = numbers::<0>(body)?;
@@ -91,7 +96,9 @@ fn current(by: OfCurrent, body: &[u8], out: &mut Answers) -> Result<(), QueryErr
 }
 
 // Query 36: nothing. 37: a generation and a claim.
-fn mutation(by: OfMutation, body: &[u8], out: &mut Answers) -> Result<(), QueryError> {
+fn mutation(by: OfMutation, body: &[u8], out: &mut Answers) -> Result<(), QueryError>
+    ensures { out.new.used ≤ out.old.used + 512 }
+{
     let made = match by {
         OfMutation::Initial => {
             let [] = numbers::<0>(body)?;
@@ -108,7 +115,9 @@ fn mutation(by: OfMutation, body: &[u8], out: &mut Answers) -> Result<(), QueryE
 }
 
 // Query 38: a cookie and a token.
-fn key(body: &[u8], out: &mut Answers) -> Result<(), QueryError> {
+fn key(body: &[u8], out: &mut Answers) -> Result<(), QueryError>
+    ensures { out.new.used ≤ out.old.used + 512 }
+{
     let [cookie, token] = numbers::<2>(body)?;
     let made = FenceCookieKey::new(SocketCookie(cookie), DurableFenceToken(token));
     let value = put_made::<FenceCookieKey, 16>(made, out);
@@ -117,7 +126,9 @@ fn key(body: &[u8], out: &mut Answers) -> Result<(), QueryError> {
 }
 
 // Query 39: a token. 40: a token, a deadline and an epoch. 41 and 42: a token and an epoch.
-fn entry(by: OfEntry, body: &[u8], out: &mut Answers) -> Result<(), QueryError> {
+fn entry(by: OfEntry, body: &[u8], out: &mut Answers) -> Result<(), QueryError>
+    ensures { out.new.used ≤ out.old.used + 512 }
+{
     let made = match by {
         OfEntry::InitialClosed => {
             let [token] = numbers::<1>(body)?;
@@ -146,7 +157,9 @@ fn entry(by: OfEntry, body: &[u8], out: &mut Answers) -> Result<(), QueryError> 
 }
 
 // Query 43: a key's bytes and an entry's.
-fn cookie_value(body: &[u8], out: &mut Answers) -> Result<(), QueryError> {
+fn cookie_value(body: &[u8], out: &mut Answers) -> Result<(), QueryError>
+    ensures { out.new.used ≤ out.old.used + 512 }
+{
     let body = parts::exactly::<48>(body)?;
     let key = decoded::<FenceCookieKey>(&body[..16]);
     let entry = decoded::<FenceEntry>(&body[16..]);
@@ -157,7 +170,9 @@ fn cookie_value(body: &[u8], out: &mut Answers) -> Result<(), QueryError> {
 }
 
 // Query 44: an endpoint, a root cgroup (u64) and a capacity (u32).
-fn config(body: &[u8], out: &mut Answers) -> Result<(), QueryError> {
+fn config(body: &[u8], out: &mut Answers) -> Result<(), QueryError>
+    ensures { out.new.used ≤ out.old.used + 512 }
+{
     let body = parts::exactly::<31>(body)?;
     let root = RootCgroupId(octets::get_le::<u64>(body, 19));
     let made = FenceConfig::new(
@@ -173,7 +188,9 @@ fn config(body: &[u8], out: &mut Answers) -> Result<(), QueryError> {
 }
 
 // Query 45: a current record's bytes, a mutation record's, whether there is an entry (u8), and a cookie value's.
-fn inspection(body: &[u8], out: &mut Answers) -> Result<(), QueryError> {
+fn inspection(body: &[u8], out: &mut Answers) -> Result<(), QueryError>
+    ensures { out.new.used ≤ out.old.used + 512 }
+{
     let body = parts::exactly::<81>(body)?;
     let current = decoded::<CurrentFenceToken>(&body[..24]);
     let mutation = decoded::<FenceMutationAuthority>(&body[24..40]);

@@ -1,4 +1,6 @@
 // The fields of each record, by their accessors, as an answer has them.
+ghost use Rattle.std.specs.Prelude.{◌+◌, ◌≤◌};
+
 use crate::Answers;
 use authority::current::CurrentFenceToken;
 use authority::mutation::FenceMutationAuthority;
@@ -8,7 +10,9 @@ use records::entry::{FenceEntry, FenceEntryState};
 use records::key::FenceCookieKey;
 
 // Token, cookie, whether it is lifecycle-open, whether it is retirement-closed: 18 bytes.
-pub(crate) fn put_current(value: CurrentFenceToken, out: &mut Answers) {
+pub(crate) fn put_current(value: CurrentFenceToken, out: &mut Answers)
+    ensures { out.new.used ≤ out.old.used + 18 }
+{
     out.put(&value.durable_fence_token().0.to_le_bytes());
     out.put(&value.registered_socket_cookie().0.to_le_bytes());
     out.put(&[
@@ -18,13 +22,17 @@ pub(crate) fn put_current(value: CurrentFenceToken, out: &mut Answers) {
 }
 
 // Generation, claim: 16 bytes.
-pub(crate) fn put_mutation(value: FenceMutationAuthority, out: &mut Answers) {
+pub(crate) fn put_mutation(value: FenceMutationAuthority, out: &mut Answers)
+    ensures { out.new.used ≤ out.old.used + 16 }
+{
     out.put(&value.generation().to_le_bytes());
     out.put(&value.in_flight_claim().to_le_bytes());
 }
 
 // Cookie, token: 16 bytes.
-pub(crate) fn put_key(value: FenceCookieKey, out: &mut Answers) {
+pub(crate) fn put_key(value: FenceCookieKey, out: &mut Answers)
+    ensures { out.new.used ≤ out.old.used + 16 }
+{
     out.put(&value.socket_cookie().0.to_le_bytes());
     out.put(&value.durable_fence_token().0.to_le_bytes());
 }
@@ -40,7 +48,9 @@ fn state_number(state: FenceEntryState) -> u8 {
 }
 
 // State, token, deadline, epoch, whether it is closed, terminal, reclaiming: 28 bytes.
-pub(crate) fn put_entry(value: FenceEntry, out: &mut Answers) {
+pub(crate) fn put_entry(value: FenceEntry, out: &mut Answers)
+    ensures { out.new.used ≤ out.old.used + 28 }
+{
     out.put(&[state_number(value.state())]);
     out.put(&value.durable_fence_token().0.to_le_bytes());
     out.put(&value.deadline_boot_ns().0.to_le_bytes());
@@ -53,20 +63,33 @@ pub(crate) fn put_entry(value: FenceEntry, out: &mut Answers) {
 }
 
 // Its key's and its entry's: 44 bytes.
-pub(crate) fn put_value(value: FenceCookieValue, out: &mut Answers) {
+pub(crate) fn put_value(value: FenceCookieValue, out: &mut Answers)
+    ensures { out.new.used ≤ out.old.used + 44 }
+{
     put_key(value.key(), out);
     put_entry(value.entry(), out);
 }
 
-// Family, address, port: 19 bytes.
-pub(crate) fn put_endpoint(value: ProtectedEndpoint, out: &mut Answers) {
-    out.put(&[value.family]);
-    out.put(&value.address);
-    out.put(&value.port().to_le_bytes());
+// Family, address, port.
+pub(crate) fn endpoint_bytes(value: ProtectedEndpoint) -> [u8; 19] {
+    let mut bytes = [0u8; 19];
+    bytes[0] = value.family;
+    bytes[1..17].copy_from_slice(&value.address);
+    bytes[17..].copy_from_slice(&value.port().to_le_bytes());
+    bytes
+}
+
+// The same: 19 bytes.
+pub(crate) fn put_endpoint(value: ProtectedEndpoint, out: &mut Answers)
+    ensures { out.new.used ≤ out.old.used + 19 }
+{
+    out.put(&endpoint_bytes(value));
 }
 
 // An inspection's entry: 1 and its cookie value's, or 0 where there is none.
-pub(crate) fn put_inspected(entry: Option<FenceCookieValue>, out: &mut Answers) {
+pub(crate) fn put_inspected(entry: Option<FenceCookieValue>, out: &mut Answers)
+    ensures { out.new.used ≤ out.old.used + 45 }
+{
     match entry {
         None => out.put(&[0]),
         Some(value) => {

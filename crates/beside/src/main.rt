@@ -19,6 +19,8 @@ mod parts;
 mod query;
 mod verdicts;
 
+ghost use Rattle.std.specs.Prelude.{◌+◌, ◌≤◌, ◌≡◌};
+
 use gathered::Gathered;
 use program::{About, Outcome, Stopped, Streams};
 use query::{Kind, Queries, Query, QueryError};
@@ -33,8 +35,8 @@ const BLOCK: usize = 65536;
 // The answers that are gathered.
 type Answers = Gathered<65536>;
 
-// They are written once a longest answer might not fit any more.
-const FULL: usize = 65024;
+// The longest answer. What is gathered is written once there might be no room for it any more.
+const LONGEST: usize = 512;
 
 const ABOUT: About<'static> = About {
     name: b"beside",
@@ -101,7 +103,9 @@ fn read_block<'a, R: Read>(
 }
 
 // Writes the answers that were gathered.
-fn flush(out: &mut Answers, to: Streams) -> Result<(), Stopped> {
+fn flush(out: &mut Answers, to: Streams) -> Result<(), Stopped>
+    ensures { out.new.used ≡ 0 }
+{
     let written = program::answer(
         to,
         out.bytes(),
@@ -112,7 +116,9 @@ fn flush(out: &mut Answers, to: Streams) -> Result<(), Stopped> {
 }
 
 // A query is at fault: the answers before it are written, and then the complaint.
-fn refuse(error: QueryError, out: &mut Answers, to: Streams) -> Stopped {
+fn refuse(error: QueryError, out: &mut Answers, to: Streams) -> Stopped
+    ensures { out.new.used ≡ 0 }
+{
     let _ = flush(out, to);
     match error {
         QueryError::Cut => program::complain(to, b"beside: a query is cut\n"),
@@ -122,21 +128,40 @@ fn refuse(error: QueryError, out: &mut Answers, to: Streams) -> Stopped {
     }
 }
 
+// Answers a query, and writes what is gathered once another answer might not fit any more: so each answer finds the room that a longest one
+// takes.
+fn answer_one(
+    query: Result<Query<'_>, QueryError>,
+    out: &mut Answers,
+    to: Streams,
+) -> Result<(), Stopped>
+    requires { out.old.used ≤ 65024 }
+    ensures { out.new.used ≤ 65024 }
+{
+    if let Err(error) = answer(query, out) {
+        return Err(refuse(error, out, to));
+    }
+    if out.room() < LONGEST {
+        flush(out, to)?;
+    }
+    Ok(())
+}
+
 // Answers the queries of a block.
-fn answer_all(block: &[u8], out: &mut Answers, to: Streams) -> Result<(), Stopped> {
+fn answer_all(block: &[u8], out: &mut Answers, to: Streams) -> Result<(), Stopped>
+    requires { out.old.used ≤ 65024 }
+    ensures { out.new.used ≤ 65024 }
+{
     for query in Queries(block) {
-        if let Err(error) = answer(query, out) {
-            return Err(refuse(error, out, to));
-        }
-        if FULL < out.bytes().len() {
-            flush(out, to)?;
-        }
+        answer_one(query, out, to)?;
     }
     flush(out, to)
 }
 
 // Puts the answer to a query after those that are gathered, or nothing where it has none.
-fn answer(query: Result<Query<'_>, QueryError>, out: &mut Answers) -> Result<(), QueryError> {
+fn answer(query: Result<Query<'_>, QueryError>, out: &mut Answers) -> Result<(), QueryError>
+    ensures { out.new.used ≤ out.old.used + 512 }
+{
     let Query { number, body } = query?;
     match Kind::try_from(number)? {
         Kind::Refresh => leaves::refresh(body, out),

@@ -1,5 +1,7 @@
 // Query 48: what is known of a packet and of the authority. The answer is the verdict's slot, or ff where it has none, and whether the
 // packet must be dropped.
+ghost use Rattle.std.specs.Prelude.{◌+◌, ◌≤◌};
+
 use crate::query::QueryError;
 use crate::{Answers, parts};
 use packet::PacketEndpointDisposition;
@@ -49,7 +51,9 @@ fn authority_of(body: &[u8]) -> FenceAuthoritySnapshot {
 }
 
 // Puts the slot and whether the packet must be dropped.
-pub(crate) fn answer(body: &[u8], out: &mut Answers) -> Result<(), QueryError> {
+pub(crate) fn answer(body: &[u8], out: &mut Answers) -> Result<(), QueryError>
+    ensures { out.new.used ≤ out.old.used + 512 }
+{
     let body = parts::exactly::<61>(body)?;
     let verdict = verdict::decide_egress(context_of(body), authority_of(body));
     out.put(&[verdict.slot_number(), verdict.must_drop() as u8]);

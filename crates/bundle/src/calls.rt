@@ -11,19 +11,17 @@ use config::FenceConfig;
 use gate::{GateAnswer, GateCall, Socket};
 use units::{BootNs, RootCgroupId, SocketCookie};
 
-// What stands for a body that has not come yet.
-const ZEROS: &[u8; CALL] = &[0; CALL];
-
-// The n bytes at a place of the input, or as many zeros where they do not lie inside.
-fn body(input: &[u8], at: usize, n: usize) -> &[u8]
-    requires { n ≤ 43 }
+// The n bytes at a place of the input, or as many zeros where they do not lie inside. The zeros are an array of the caller's
+// own: of a constant the compiler chooses an address for each field that is read of the bytes, whether it is asked for or not.
+fn body<'a>(input: &'a [u8], zeros: &'a [u8; CALL], at: usize, n: usize) -> &'a [u8]
+    requires { (zeros.now ≡ replicate 43 0) × (n ≤ 43) }
     ensures { result.now ≡ held input.now at n }
 {
     let Some(rest) = input.get(at..) else {
-        return &ZEROS[..n];
+        return &zeros[..n];
     };
     let Some(there) = rest.get(..n) else {
-        return &ZEROS[..n];
+        return &zeros[..n];
     };
     there
 }
@@ -50,14 +48,15 @@ fn first(s: &[u8], n: usize) -> &[u8]
 pub fn judge(input: &[u8], table: &[u8], cursor: Cursor, packet: &[u8]) -> GateAnswer
     ensures { answer_of result ≡ gate_of (call_of (state_of input.now cursor table.now) packet.now) }
 {
-    let call = body(input, cursor.call, CALL);
+    let zeros = [0u8; CALL];
+    let call = body(input, &zeros, cursor.call, CALL);
     gate::gate(&GateCall {
-        config: body(input, cursor.config, FenceConfig::LEN),
+        config: body(input, &zeros, cursor.config, FenceConfig::LEN),
         attachment: RootCgroupId(octets::get_le::<u64>(call, 0)),
         socket: socket_of(call),
         packet,
         cookie: SocketCookie(octets::get_le::<u64>(call, 27)),
-        current: body(input, cursor.current, CurrentFenceToken::LEN),
+        current: body(input, &zeros, cursor.current, CurrentFenceToken::LEN),
         table: first(table, cursor.gathered),
         now_boot_ns: BootNs(octets::get_le::<u64>(call, 35)),
     })

@@ -8,3 +8,6 @@ pub mod Alike
 pub mod Bundles
 pub mod RoundLaws
 pub mod RoundTrips
+pub mod EncoderLaws
+pub mod ConfigRule
+pub mod Steps

@@ -4,7 +4,7 @@
 #![tactic(auto)]
 
 ghost use Rattle.std.specs.Prelude.{◌≡◌, ◌≤◌, length, IfOk, IfErr};
-ghost use Rattle.program.specs.Reading.{Told};
+ghost use Rattle.program.specs.Reading.{AtStart, Told, Lies};
 ghost use Rattle.program.specs.Status.{digit_of, failed, of_whole, outcome_of};
 
 use std::env::{Env, FillError};
@@ -219,7 +219,7 @@ pub enum InputError<'a> {
 
 // One read: as many bytes as there are now, none where the input ended.
 pub fn read_some<'a, R: Read>(from: &mut R, space: &'a mut [u8]) -> io::Result<&'a [u8]>
-    ensures { IfOk result (λ some. length some.now ≤ length space.old) }
+    ensures { IfOk result (λ some. AtStart space.entry some) }
 {
     let n = from.read(space)?;
     Ok(&space[..n])
@@ -227,8 +227,8 @@ pub fn read_some<'a, R: Read>(from: &mut R, space: &'a mut [u8]) -> io::Result<&
 
 // Reads to the start of `space` until it is full, the input ends or a read fails.
 pub fn fill<'a, R: Read>(from: &mut R, space: &'a mut [u8]) -> Result<&'a [u8], ReadFailed<'a>>
-    ensures filled { IfOk result (λ some. length some.now ≤ length space.old) }
-    ensures failed { IfErr result (λ error. length error.before.now ≤ length space.old) }
+    ensures filled { IfOk result (λ some. AtStart space.entry some) }
+    ensures failed { IfErr result (λ error. AtStart space.entry error.before) }
 {
     let mut at = 0;
     // Nothing is counted: a read gives as many bytes as there are.
@@ -250,7 +250,8 @@ pub fn read_input<'a, R: Read>(
     limit: usize,
     space: &'a mut [u8],
 ) -> Result<Input<'a>, InputError<'a>>
-    ensures { Told limit (length space.old) result }
+    ensures told { Told limit (length space.old) result }
+    ensures at_start { Lies space.entry result }
 {
     if space.len() <= limit {
         return Err(InputError::Small);
@@ -278,11 +279,14 @@ pub fn read_named<'a, R: Files>(
     limit: usize,
     space: &'a mut [u8],
 ) -> Result<Input<'a>, InputError<'a>>
-    ensures { Told limit (length space.old) result }
+    ensures told { Told limit (length space.old) result }
+    ensures at_start { Lies space.entry result }
 {
     match open_named(rt, path) {
         Ok(mut file) => read_input(&mut file, limit, space),
-        Err(_) if limit < space.len() => Err(InputError::Failed(ReadFailed { before: &[] })),
+        Err(_) if limit < space.len() => Err(InputError::Failed(ReadFailed {
+            before: &space[..0],
+        })),
         Err(_) => Err(InputError::Small),
     }
 }

@@ -8,13 +8,13 @@ pub returns-in_default : goal.returns-in_default
 returns-in_default c =
     let a = c.args in
     let past : length a.input.now < a.at + a.n = grind (arith, c.in_default.ensures.lookup) in
-    held-zeros a.input.now a.at a.n c.requires past
+    (λ i. take a.n (c.requires.0 i)) ∙ held-zeros a.input.now a.at a.n c.requires.1 past
 
 pub returns-in_default-get : goal.returns-in_default-get
 returns-in_default-get c =
     let a = c.args in
     let past : length a.input.now < a.at + a.n = grind (arith, c.in-Some.ensures.lookup, c.in_default-get.ensures.lookup) in
-    held-zeros a.input.now a.at a.n c.requires past
+    (λ i. take a.n (c.requires.0 i)) ∙ held-zeros a.input.now a.at a.n c.requires.1 past
 
 pub returns : goal.returns
 returns c =

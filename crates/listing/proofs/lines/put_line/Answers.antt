@@ -11,7 +11,5 @@ unfolding line
 returns c =
     let a = c.args in
     let fits : length a.out.now ≤ last_place = omega arith in
-    let kept : length c.put_decimal-to.new.out ≤ last_place = omega arith in
-    let name = then kept (then kept c.put_byte-to.ensures (rw c.name_of.ensures at c.put_text-to.ensures)) c.put_byte-to-2.ensures in
-    then fits (then fits (then fits (then fits (then fits c.put_decimal-to.ensures name) c.put_decimal-to-2.ensures) c.put_byte-to-3.ensures)
+    then fits (then fits (then fits (then fits (then fits c.put_decimal-to.ensures (rw c.spaced_name_of.ensures at c.put_text-to.ensures)) c.put_decimal-to-2.ensures) c.put_byte-to.ensures)
     (rw c.counter_slot-slot.ensures at c.put_slot-to.ensures)) c.put_byte.ensures
